@@ -1,21 +1,20 @@
 -- The parts of an item, and the values that stand for them.
-use Rattle.std.proofs.Common.{◌≡◌, ◌+◌, ◌<◌, ◌≤◌, ℕ, zero, Bor, get_or, sym, suc, List, [], ◌∷◌, length, map, Bool, true, false, cond, not, Option, Some, None, Ok, Err, refl, ap, ◌∙◌, subst, arith, rules, ltb}
+use Rattle.std.proofs.Common.{◌≡◌, ◌+◌, ◌<◌, ◌≤◌, ℕ, zero, Bor, get_or, sym, suc, List, [], ◌∷◌, length, map, Bool, true, false, cond, not, Option, Some, None, Ok, refl, ap, ◌∙◌, subst, arith, rules, ltb}
 use Rattle.std.specs.Prelude.{option_and_then, option_map, slice_get, find, MatchOption}
 use Rattle.std.specs.List.{prefix_len, position, position_or_len, HoldsAt}
 use Rattle.std.proofs.lemmas.Option.{slice_get_past}
 use Rattle.std.specs.Option.{option_map_or}
 use Rattle.serde_json.specs.Data.{Data, Items, Members}
-use Rattle.serde_json.specs.Find.{as_object, as_str, as_array, get_member}
-use Rattle.cat_base.specs.declared.refusal.Refusal.{Refusal}
-use Rattle.cat_base.specs.declared.refusal.Refusal.TheVariants as refusal
+use Rattle.serde_json.specs.Find.{as_str, as_array, get_member}
 use Rattle.cat_base.specs.Texts.{sorted_set, IsTextSet}
 use Rattle.cat_base.proofs.TextSets.{IsTextSet-nil, IsTextSet-sorted_set}
 use Rattle.cat_model.specs.Text.{Text, same_text}
-use Rattle.cat_model.specs.Item.{Field, Kind, Content, Item, Schema, IsContent, AreFields, IsItem, is_id}
+use Rattle.cat_model.specs.Item.{Field, Kind, Content, Item, Schema, IsContent, AreFields, IsItem}
 use Rattle.cat_model.specs.Words.{lowered, runs, words}
 use Rattle.cat_items.specs.declared.item.FieldValue.{FieldValue}
 use Rattle.cat_items.specs.Contents.{field_content_of, named_contents}
-use Rattle.cat_items.specs.Reading.{id_name, json_of, label_texts, value_of, contents_in, first_fault, checked, with_id, of_members, of_value, item_of}
+use Rattle.cat_items.specs.Reading.{label_texts, value_of, contents_in, item_of}
+use Rattle.cat_items.proofs.WholeItem.{item_whole}
 
 -- ---- as many values as fields
 
@@ -109,32 +108,6 @@ AreFields-contents_in : (fs : Schema) (ms : Members) → AreFields fs (contents_
 AreFields-contents_in [] ms = tt
 AreFields-contents_in (f ∷ fs) ms = ((refl, IsContent-value_of f.kind (get_member f.name ms)), AreFields-contents_in fs ms)
 
-from_checked : (fs : Schema) (bytes : Text) (ms : Members) (id : Text) (o : Option Refusal) (i : Item) → checked fs bytes ms id o ≡ Ok i → IsItem fs i
-from_checked fs bytes ms id (Some e) i is = absurd (cc)
-from_checked fs bytes ms id None i is =
-    let same : record { id = id; fields = contents_in fs ms; source = bytes } ≡ i = (cc) in
-    subst (IsItem fs) same (AreFields-contents_in fs ms)
-
-from_form : (fs : Schema) (bytes : Text) (ms : Members) (id : Text) (b : Bool) (i : Item) → cond b (checked fs bytes ms id (first_fault fs ms)) (Err refusal.Id) ≡ Ok i → IsItem fs i
-from_form fs bytes ms id true i is = from_checked fs bytes ms id (first_fault fs ms) i is
-from_form fs bytes ms id false i is = absurd (cc)
-
-from_id : (fs : Schema) (bytes : Text) (ms : Members) (o : Option Text) (i : Item) → with_id fs bytes ms o ≡ Ok i → IsItem fs i
-from_id fs bytes ms None i is = absurd (cc)
-from_id fs bytes ms (Some id) i is = from_form fs bytes ms id (is_id id) i is
-
-from_members : (fs : Schema) (bytes : Text) (o : Option Members) (i : Item) → of_members fs bytes o ≡ Ok i → IsItem fs i
-from_members fs bytes None i is = absurd (cc)
-from_members fs bytes (Some ms) i is = from_id fs bytes ms (option_and_then as_str (get_member id_name ms)) i is
-
-from_value : (fs : Schema) (bytes : Text) (o : Option Data) (i : Item) → of_value fs bytes o ≡ Ok i → IsItem fs i
-from_value fs bytes None i is = absurd (cc)
-from_value fs bytes (Some d) i is = from_members fs bytes (as_object d) i is
-
-from_small : (fs : Schema) (bytes : Text) (b : Bool) (i : Item) → cond b (Err refusal.Large) (of_value fs bytes (json_of bytes)) ≡ Ok i → IsItem fs i
-from_small fs bytes true i is = absurd (cc)
-from_small fs bytes false i is = from_value fs bytes (json_of bytes) i is
-
 -- an item that is read has a part for each field, of the field's kind
 pub IsItem-item_of : (fs : Schema) (bytes : Text) (i : Item) → item_of fs bytes ≡ Ok i → IsItem fs i
-IsItem-item_of fs bytes i is = from_small fs bytes _ i is
+IsItem-item_of fs bytes i is = let w = item_whole fs bytes i is in subst (IsItem fs) w.is (AreFields-contents_in fs w.members)

@@ -4,12 +4,12 @@ use Rattle.std.specs.Prelude.{String, IfErr}
 use Rattle.std.proofs.lemmas.Bool.{true≢false}
 use Rattle.std.specs.declared.alloc.Global.{Global}
 use Rattle.serde_json.specs.View.{members_view}
+use Rattle.serde_json.proofs.Views.{members_len-members_view}
 use Rattle.serde_json.specs.declared.value.Value.{Value}
 use Rattle.cat_base.specs.declared.refusal.Refusal.{Refusal}
 use Rattle.cat_base.specs.declared.refusal.Refusal.TheVariants as refusal
 use Rattle.cat_model.specs.Item.{Schema}
-use Rattle.cat_items.specs.Reading.{fields_of, when_few}
-use Rattle.cat_items.proofs.Names.{as_many}
+use Rattle.cat_items.specs.Reading.{fields_of, schema_in}
 
 more_than : (n : ℕ) → 32 < n → ltb 32 n ≡ true
 more_than n h = grind (arith, rules)
@@ -22,20 +22,17 @@ pub whatever : {X : Type 0} (P : Type 0) (r : Result X Refusal) → P → IfErr 
 whatever P (Ok x) p = tt
 whatever P (Err e) p = λ _. p
 
-pub too_many : (es : List (String Global × Value)) → 32 < length es → when_few (fields_of (members_view es)) ≡ Err refusal.Kind
-too_many es many = by (fields_of (members_view es)) refl
-  where
-    by : (o : Option Schema) → fields_of (members_view es) ≡ o → when_few o ≡ Err refusal.Kind
-    by None e = refl
-    by (Some fs) e = ap (λ (b : Bool). cond b (Err refusal.Kind) (Ok fs)) (more_than (length fs) (omega (arith, as_many es fs e)))
+pub too_many : (es : List (String Global × Value)) → 32 < length es → schema_in (members_view es) ≡ None
+too_many es many =
+    ap (λ (b : Bool). cond b None (fields_of (members_view es))) (ap (ltb 32) (members_len-members_view es) ∙ more_than (length es) many)
 
-pub few_enough : (es : List (String Global × Value)) (fs : Schema) → length es ≤ 32 → fields_of (members_view es) ≡ Some fs → when_few (fields_of (members_view es)) ≡ Ok fs
-few_enough es fs few e = ap when_few e ∙ ap (λ (b : Bool). cond b (Err refusal.Kind) (Ok fs)) (at_most (length fs) (omega (arith, as_many es fs e)))
+pub few_enough : (es : List (String Global × Value)) (fs : Schema) → length es ≤ 32 → fields_of (members_view es) ≡ Some fs → schema_in (members_view es) ≡ Some fs
+few_enough es fs few e =
+    ap (λ (b : Bool). cond b None (fields_of (members_view es))) (ap (ltb 32) (members_len-members_view es) ∙ at_most (length es) few) ∙ e
 
-pub few_and_right : (es : List (String Global × Value)) → length es ≤ 32 → is_some (fields_of (members_view es)) ≡ true
-    → (fs : Schema) × (when_few (fields_of (members_view es)) ≡ Ok fs)
+pub few_and_right : (es : List (String Global × Value)) → length es ≤ 32 → is_some (fields_of (members_view es)) ≡ true → (fs : Schema) × (schema_in (members_view es) ≡ Some fs)
 few_and_right es few right = by (fields_of (members_view es)) refl right
   where
-    by : (o : Option Schema) → fields_of (members_view es) ≡ o → is_some o ≡ true → (fs : Schema) × (when_few (fields_of (members_view es)) ≡ Ok fs)
+    by : (o : Option Schema) → fields_of (members_view es) ≡ o → is_some o ≡ true → (fs : Schema) × (schema_in (members_view es) ≡ Some fs)
     by None e right = absurd (true≢false (sym right))
     by (Some fs) e right = (fs, few_enough es fs few e)

@@ -1,6 +1,6 @@
 -- An item that is read has the forms of items.
 use Rattle.std.proofs.Common.{◌≡◌, ℕ, ◌+◌, ◌≤◌, List, [], ◌∷◌, length, get_or, map, Bool, true, false, cond, not, ◌&&◌, eqb, ltb, false-eqb, Option, Some, None, Ordering, Less, Equal, Greater, nat_cmp, IsUtf8, refl, sym, ap, ◌∙◌, subst, arith, rules}
-use Rattle.std.specs.Prelude.{All, option_map, find, bytes_eq}
+use Rattle.std.specs.Prelude.{All, option_map, find, bytes_eq, codes}
 use Rattle.std.specs.Option.{option_or, option_map_or}
 use Rattle.std.specs.List.{list_all, AllByRecursion}
 use Rattle.std.specs.List.Sorted.{IsStrictlySortedBy}
@@ -25,7 +25,7 @@ use Rattle.cat_model.specs.Item.{Field, Kind, Schema, IsSchema, is_id, is_field_
 use Rattle.cat_model.specs.Forms.{is_plain_byte, IsKeyword, IsLabel, IsFormed, IsFormedItem}
 use Rattle.cat_items.specs.declared.item.FieldValue.{FieldValue}
 use Rattle.cat_items.specs.Contents.{field_content_of, named_contents, IsTyped}
-use Rattle.cat_items.specs.Reading.{id_name, json_of, keyword_fault, label_fault, some_label_fault, labels_fault, list_fault, field_fault, member_fault, first_fault, label_texts, value_of}
+use Rattle.cat_items.specs.Reading.{json_of, keyword_fault, label_fault, some_label_fault, labels_fault, list_fault, field_fault, member_fault, first_fault, label_texts, value_of}
 use Rattle.cat_items.proofs.LoweredRuns.{All-sorted_set}
 use Rattle.cat_items.proofs.Names.{names}
 
@@ -102,7 +102,7 @@ labels_form ds right utf8 = by (ltb 64 (items_len ds)) refl right
 
 -- the member is absent or has no fault
 abbrev pub IsRight : Kind → Option Data → Type 0
-IsRight k o = option_map_or (field_fault (Some k)) o None ≡ None
+IsRight k o = option_map_or (field_fault k) o None ≡ None
 
 value_form : (k : Kind) (o : Option Data) → IsRight k o → IsTyped (value_of k o) → IsFormed (value_of k o)
 value_form Kind.text o right typed = typed
@@ -159,8 +159,8 @@ kinds (f ∷ fs) rising = (
       later gs above.1 found.1,
     )
 
-not_id : (name : Text) → is_field_name name ≡ true → bytes_eq name id_name ≡ false
-not_id name h = by (has_name_form name) (bytes_eq name id_name) h
+not_id : (name : Text) → is_field_name name ≡ true → bytes_eq name (codes "id") ≡ false
+not_id name h = by (has_name_form name) (bytes_eq name (codes "id")) h
   where
     by : (form same : Bool) → (form && not same) ≡ true → same ≡ false
     by true true e = (cc)
@@ -170,7 +170,9 @@ not_id name h = by (has_name_form name) (bytes_eq name id_name) h
 field_right : (fs : Schema) (name : Text) (k : Kind) (o : Option Data) → is_field_name name ≡ true → kind_of fs name ≡ Some k → option_map_or (member_fault fs name) o None ≡ None → IsRight k o
 field_right fs name k None named kind right = refl
 field_right fs name k (Some d) named kind right =
-    ap (λ found. field_fault found d) (sym kind) ∙ ap (λ b. cond b None (field_fault (kind_of fs name) d)) (sym (not_id name named)) ∙ right
+    ap (λ found. option_map_or (λ k. field_fault k d) found (Some refusal.Member)) (sym kind)
+    ∙ ap (λ b. cond b None (option_map_or (λ k. field_fault k d) (kind_of fs name) (Some refusal.Member))) (sym (not_id name named))
+    ∙ right
 
 pub fields_right : (fs gs : List Field) (ms : Members) → first_fault fs ms ≡ None → AllByRecursion (λ g. is_field_name g.name ≡ true) gs → AllByRecursion (λ g. kind_of fs g.name ≡ Some g.kind) gs
     → AllByRecursion (λ g. IsRight g.kind (get_member g.name ms)) gs

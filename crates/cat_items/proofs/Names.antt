@@ -1,5 +1,5 @@
 -- The fields of a schema have the names of the object's members, in their order.
-use Rattle.std.proofs.Common.{◌≡◌, ℕ, List, [], ◌∷◌, ◌++◌, length, append-nil, map, Bool, true, false, cond, Option, Some, None, option_map, refl, sym, ap, ◌∙◌, subst, nat_cmp, Ordering, Less, Equal, Greater, IsTrue, ◌+◌, get_or, arith}
+use Rattle.std.proofs.Common.{◌≡◌, ℕ, suc, List, [], ◌∷◌, ◌++◌, length, append-nil, map, Bool, true, false, cond, Option, Some, None, option_map, refl, sym, ap, ◌∙◌, subst, nat_cmp, Ordering, Less, Equal, Greater, IsTrue, ◌+◌, get_or, arith}
 use Rattle.std.specs.Prelude.{◌↔◌, option_and_then, String, string_bytes}
 use Rattle.std.specs.List.{AllByRecursion, IsAllAdjacentAnswer}
 use Rattle.std.specs.List.Sorted.{IsStrictlySortedBy}
@@ -12,8 +12,9 @@ use Rattle.std.proofs.lemmas.Bool.{true≢false}
 use Rattle.std.proofs.lemmas.Map.Keys.{sorted_from_all_adjacent, Less-from_sorted}
 use Rattle.std.specs.declared.alloc.Global.{Global}
 use Rattle.serde_json.specs.Data.{Data, Members, no_members, member}
+use Rattle.serde_json.specs.Events.{members_len}
 use Rattle.serde_json.specs.Find.{as_str}
-use Rattle.serde_json.specs.View.{view, members_view}
+use Rattle.serde_json.specs.View.{members_view}
 use Rattle.serde_json.specs.declared.value.Value.{Value}
 use Rattle.cat_base.specs.Texts.{IsTextSet}
 use Rattle.cat_model.specs.Item.{Field, Kind, is_field_name}
@@ -91,11 +92,11 @@ pub names_rise : (ms : Members) (fs : List Field) → IsTextSet (names_in ms) �
 names_rise ms fs sorted e = subst IsTextSet (sym (names_are ms fs e)) sorted
 
 -- as many fields as members
-pub as_many : (es : List Entry) (fs : List Field) → fields_of (members_view es) ≡ Some fs → length fs ≡ length es
-as_many [] fs e = let none : fs ≡ [] = (cc) in ap length none
-as_many (m ∷ es) fs e =
-    let p = parts (field_of (string_bytes m.0) (view m.1)) (fields_of (members_view es)) fs e in
-    omega (arith, ap length p.whole, as_many es p.rest p.is_rest)
+pub as_many : (ms : Members) (fs : List Field) → fields_of ms ≡ Some fs → length fs ≡ members_len ms
+as_many no_members fs e = let none : fs ≡ [] = (cc) in ap length none
+as_many (member name d ms) fs e =
+    let p = parts (field_of name d) (fields_of ms) fs e in
+    ap length p.whole ∙ ap suc (as_many ms p.rest p.is_rest)
 
 names_viewed : (es : List Entry) → names_in (members_view es) ≡ keys es
 names_viewed [] = refl

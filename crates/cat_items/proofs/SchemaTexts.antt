@@ -1,6 +1,7 @@
 -- A text that is a schema keeps the rules for schemas, since the members of an object that is read stand in byte order.
-use Rattle.std.proofs.Common.{◌≡◌, ℕ, ◌≤◌, List, [], ◌∷◌, length, Bool, true, false, cond, ltb, Option, Some, None, Ok, Err, Ordering, Less, Equal, Greater, nat_cmp, option_map, refl, sym, ap, ◌∙◌, subst, arith, rules}
-use Rattle.std.specs.Prelude.{option_and_then}
+use Rattle.std.proofs.Common.{◌≡◌, ℕ, ◌≤◌, List, [], ◌∷◌, Bool, true, false, cond, ltb, Option, Some, None, Ok, Err, Ordering, Less, Equal, Greater, nat_cmp, option_map, refl, sym, ap, ◌∙◌, subst, arith, rules}
+use Rattle.std.specs.Prelude.{ok_or, option_and_then}
+use Rattle.std.specs.Option.{option_map_or}
 use Rattle.std.specs.Ordering.{match_ordering}
 use Rattle.std.specs.Cmp.Lexicographic.{slice_cmp}
 use Rattle.std.specs.BTreeSet.{insert_key}
@@ -8,9 +9,11 @@ use Rattle.std.specs.Str.{is_utf8}
 use Rattle.json.specs.Lex.{tokens}
 use Rattle.json.specs.Json as json
 use Rattle.serde_json.specs.Data.{Num, Data, null, boolean, number, string, array, object, Items, Members, no_members, member, put}
+use Rattle.serde_json.specs.Events.{members_len}
 use Rattle.serde_json.specs.Find.{as_object}
 use Rattle.serde_json.specs.Read.{number_of, of_json, of_items, of_members, max_depth, read}
-use Rattle.cat_base.specs.declared.refusal.Refusal.TheVariants as refusal
+use Rattle.cat_base.specs.declared.refusal.Refusal.{Refusal}
+use Rattle.cat_base.specs.declared.refusal.Refusal.TheVariants.{Json as NoJson, Kind as WrongKind}
 use Rattle.cat_base.specs.Texts.{sorted_set, IsTextSet}
 use Rattle.cat_base.proofs.TextSets.{IsTextSet-sorted_set}
 use Rattle.cat_model.specs.Text.{Text}
@@ -18,7 +21,7 @@ use Rattle.cat_model.specs.Item.{Schema, IsSchema}
 use Rattle.cat_model.proofs.Sayings.{one_hearing, one_way}
 use Rattle.cat_items.specs.Reading as reading
 use Rattle.cat_items.specs.Laws.{TextsOfSchemasKeepTheRules, EveryLineIsHeardOneWay, EveryInputIsHeardOneWay}
-use Rattle.cat_items.proofs.Names.{names_in, names_rise, all_named}
+use Rattle.cat_items.proofs.Names.{names_in, names_rise, all_named, as_many}
 
 -- ---- the members that are read
 
@@ -95,31 +98,30 @@ at_most : (n : ℕ) → ltb 32 n ≡ false → n ≤ 32
 at_most n h = grind (arith, rules)
 
 -- fields of members whose names rise, where there are at most 32
-is_schema : (o : Option Members) (schema : Schema) → ((ms : Members) → Some ms ≡ o → NamesAreSet ms) → reading.when_few (option_and_then reading.fields_of o) ≡ Ok schema → IsSchema schema
+is_schema : (o : Option Members) (schema : Schema) → ((ms : Members) → Some ms ≡ o → NamesAreSet ms) → option_and_then reading.schema_in o ≡ Some schema → IsSchema schema
 is_schema None schema sets e = absurd (cc)
-is_schema (Some ms) schema sets e = of_fields (reading.fields_of ms) refl e
+is_schema (Some ms) schema sets e = by (ltb 32 (members_len ms)) refl e
   where
-    of_length : (fs : Schema) (b : Bool) → reading.fields_of ms ≡ Some fs → ltb 32 (length fs) ≡ b → cond b (Err refusal.Kind) (Ok fs) ≡ Ok schema → IsSchema schema
-    of_length fs true is many e = absurd (cc)
-    of_length fs false is many e =
-        let same : fs ≡ schema = (cc) in
+    by : (b : Bool) → ltb 32 (members_len ms) ≡ b → cond b None (reading.fields_of ms) ≡ Some schema → IsSchema schema
+    by true many e = absurd (cc)
+    by false many e =
         let (texts, set) = sets ms refl in
-        subst IsSchema same (record {
-          few = at_most (length fs) many;
-          rising = names_rise ms fs (subst IsTextSet (sym set) (IsTextSet-sorted_set texts)) is;
-          named = all_named ms fs is;
-        })
+        record {
+          few = subst (λ n. n ≤ 32) (sym (as_many ms schema e)) (at_most (members_len ms) many);
+          rising = names_rise ms schema (subst IsTextSet (sym set) (IsTextSet-sorted_set texts)) e;
+          named = all_named ms schema e;
+        }
 
-    of_fields : (o : Option Schema) → reading.fields_of ms ≡ o → reading.when_few o ≡ Ok schema → IsSchema schema
-    of_fields None is e = absurd (cc)
-    of_fields (Some fs) is e = of_length fs (ltb 32 (length fs)) is refl e
+some_ok : (o : Option Schema) (fault : Refusal) (schema : Schema) → ok_or o fault ≡ Ok schema → o ≡ Some schema
+some_ok None fault schema e = absurd (cc)
+some_ok (Some fs) fault schema e = (cc)
 
 pub rules_kept : TextsOfSchemasKeepTheRules
 rules_kept text schema e = by (reading.json_of text) refl e
   where
-    by : (o : Option Data) → reading.json_of text ≡ o → reading.schema_of_value o ≡ Ok schema → IsSchema schema
+    by : (o : Option Data) → reading.json_of text ≡ o → option_map_or (λ d. ok_or (option_and_then reading.schema_in (as_object d)) WrongKind) o (Err NoJson) ≡ Ok schema → IsSchema schema
     by None whole e = absurd (cc)
-    by (Some d) whole e = is_schema (as_object d) schema (json_of-sets text d whole) e
+    by (Some d) whole e = is_schema (as_object d) schema (json_of-sets text d whole) (some_ok _ WrongKind schema e)
 
 -- ---- one way to hear
 

@@ -1,18 +1,17 @@
 -- An item that is read from a line has no line feed in what is shown of it; and the law over bytes.
-use Rattle.std.proofs.Common.{◌≡◌, ℕ, List, [], ◌∷◌, length, Bool, true, false, true≢false, cond, ◌&&◌, eqb, ltb, leb, Option, Some, None, Result, Ok, Err, refl, sym, ap, ◌∙◌, subst, arith}
-use Rattle.std.specs.Prelude.{option_and_then}
+use Rattle.std.proofs.Common.{◌≡◌, ℕ, List, [], ◌∷◌, length, Bool, true, false, true≢false, cond, ◌&&◌, eqb, ltb, leb, Option, Some, None, Result, Ok, refl, sym, ap, ◌∙◌, subst, arith}
 use Rattle.std.specs.List.{list_all, AllByRecursion}
 use Rattle.std.specs.Char.{is_ascii_graphic}
 use Rattle.std.proofs.lemmas.Bool.{and_parts}
 use Rattle.std.proofs.lemmas.List.Elements.{recursion_from_All}
 use Rattle.serde_json.specs.Data.{Data, null, boolean, number, string, array, object, Items, Members}
 use Rattle.serde_json.specs.Events.{items_len}
-use Rattle.serde_json.specs.Find.{get_member, as_object, as_str}
+use Rattle.serde_json.specs.Find.{get_member}
 use Rattle.cat_base.specs.declared.refusal.Refusal.{Refusal}
 use Rattle.cat_base.specs.declared.refusal.Refusal.TheVariants as refusal
 use Rattle.cat_base.specs.Texts.{sorted_set}
 use Rattle.cat_model.specs.Text.{Text, IsOneLine}
-use Rattle.cat_model.specs.Item.{Field, Kind, Schema, IsSchema, Item, is_id}
+use Rattle.cat_model.specs.Item.{Field, Kind, Schema, is_id}
 use Rattle.cat_model.specs.Forms.{is_plain_byte}
 use Rattle.cat_model.specs.Served.{OpensEmpty, Begins}
 use Rattle.cat_model.specs.Talk.{HasOneLines, IsShownInLines, ReadsLines, IsShownOpened}
@@ -20,11 +19,12 @@ use Rattle.cat_model.proofs.TalkOpenings.{OpensShown, OpenAlike}
 use Rattle.cat_model.proofs.Lists.{All-weaken}
 use Rattle.cat_model.proofs.TalkWhole.{answers_are_talks}
 use Rattle.cat_model.proofs.TalkLaw.{talks_agree}
-use Rattle.cat_items.specs.Reading.{id_name, json_of, json, keyword_fault, label_fault, labels_fault, list_fault, first_fault, label_texts, value_of, contents_in, checked, with_id, of_members, of_value}
+use Rattle.cat_items.specs.Reading.{json, keyword_fault, label_fault, labels_fault, list_fault, label_texts, value_of, contents_in}
 use Rattle.cat_items.specs.Laws.{HaveOneSchema, EveryAnswerIsOneTalk, HeldReadsAgreeInBytes}
 use Rattle.cat_items.proofs.LoweredRuns.{All-sorted_set}
 use Rattle.cat_items.proofs.Formed.{IsRight, each_right, kinds, fields_right}
 use Rattle.cat_items.proofs.SchemaTexts.{rules_kept}
+use Rattle.cat_items.proofs.WholeItem.{item_whole}
 
 -- bytes that pass a test which a line feed doesn't
 tested_line : (p : ℕ → Bool) (t : Text) → p 10 ≡ false → list_all p t ≡ true → IsOneLine t
@@ -80,35 +80,11 @@ parts_line : (gs : List Field) (ms : Members) → AllByRecursion (λ g. IsRight 
 parts_line [] ms right = tt
 parts_line (g ∷ gs) ms right = (value_line g.kind (get_member g.name ms) right.0, parts_line gs ms right.1)
 
-module _ (fs : Schema) (bytes : Text) (ok : IsSchema fs) (one : IsOneLine bytes) where
-  from_checked : (ms : Members) (id : Text) (o : Option Refusal) (i : Item) → is_id id ≡ true → first_fault fs ms ≡ o → checked fs bytes ms id o ≡ Ok i → IsShownInLines i
-  from_checked ms id (Some e) i form right is = absurd (cc)
-  from_checked ms id None i form right is =
-      let same : record { id = id; fields = contents_in fs ms; source = bytes } ≡ i = (cc) in
-      subst IsShownInLines same (record { id = id_line id form; source = one; fields = parts_line fs ms (fields_right fs fs ms right ok.named (kinds fs ok.rising)) })
-
-  from_form : (ms : Members) (id : Text) (b : Bool) (i : Item) → is_id id ≡ b → cond b (checked fs bytes ms id (first_fault fs ms)) (Err refusal.Id) ≡ Ok i → IsShownInLines i
-  from_form ms id true i form is = from_checked ms id (first_fault fs ms) i form refl is
-  from_form ms id false i form is = absurd (cc)
-
-  from_id : (ms : Members) (o : Option Text) (i : Item) → with_id fs bytes ms o ≡ Ok i → IsShownInLines i
-  from_id ms None i is = absurd (cc)
-  from_id ms (Some id) i is = from_form ms id (is_id id) i refl is
-
-  from_members : (o : Option Members) (i : Item) → of_members fs bytes o ≡ Ok i → IsShownInLines i
-  from_members None i is = absurd (cc)
-  from_members (Some ms) i is = from_id ms (option_and_then as_str (get_member id_name ms)) i is
-
-  from_value : (o : Option Data) (i : Item) → of_value fs bytes o ≡ Ok i → IsShownInLines i
-  from_value None i is = absurd (cc)
-  from_value (Some d) i is = from_members (as_object d) i is
-
-  from_small : (b : Bool) (i : Item) → cond b (Err refusal.Large) (of_value fs bytes (json_of bytes)) ≡ Ok i → IsShownInLines i
-  from_small true i is = absurd (cc)
-  from_small false i is = from_value (json_of bytes) i is
-
 pub reads_lines : ReadsLines json
-reads_lines fs bytes i ok one is = from_small fs bytes ok one _ i is
+reads_lines fs bytes i ok one is =
+    let w = item_whole fs bytes i is in
+    let parts = parts_line fs w.members (fields_right fs fs w.members w.right ok.named (kinds fs ok.rising)) in
+    subst IsShownInLines w.is (record { id = id_line w.id w.form; source = one; fields = parts })
 
 pub opens_shown : OpensShown json OpensEmpty
 opens_shown first from (Begins.opened f l text schema r readable a is opens) =

@@ -86,7 +86,7 @@ fn text_member<'v>(root: &'v Value, name: &str) -> Option<&'v str>
 // The id of the item that a value of JSON is, where it is one; memory isn't needed to tell.
 fn judged_id<'v>(fields: &[Field], root: &'v Value) -> Result<&'v str, Refusal>
     ensures ok { IfOk result (λ id. PassesChecks fields.now (view root.now) id.now) }
-    ensures err { IfErr result (λ e. (bytes : List ℕ) → of_value fields.now bytes (Some (view root.now)) ≡ Err e) }
+    ensures err { IfErr result (λ e. (bytes : List ℕ) → of_value fields.now bytes (view root.now) ≡ Err e) }
 {
     let Some(members) = root.as_object() else {
         return Err(Refusal::Kind);

@@ -7,7 +7,7 @@ ghost use Rattle.cat_base.specs.declared.refusal.Refusal.TheVariants.{Memory, Ki
 ghost use Rattle.cat_model.specs.Item.{is_field_name, Schema};
 ghost use Rattle.cat_model.specs.Limits.{field_limit};
 ghost use Rattle.cat_items.specs.Kinds.{field_kind_of};
-ghost use Rattle.cat_items.specs.Reading.{kind_named, field_of, fields_of, when_few};
+ghost use Rattle.cat_items.specs.Reading.{kind_named, field_of, fields_of, schema_in};
 
 use crate::forms::name_ok;
 use crate::schema::{Field, Kind};
@@ -45,11 +45,9 @@ pub(crate) fn read_fields(
     alloc: Global,
     members: &Map<String, Value>,
 ) -> Result<Vec<Field>, Refusal>
-    ensures ok { IfOk result (λ v. when_few (fields_of (members_view members.now.entries)) ≡ Ok v.items) }
-    ensures err { IfErr result (λ e. e ≢ Memory → (e ≡ WrongKind)
-        × (when_few (fields_of (members_view members.now.entries)) ≡ Err WrongKind)) }
-    ensures due { IfErr result (λ e. e ≡ Memory
-        → (fields : Schema) × (when_few (fields_of (members_view members.now.entries)) ≡ Ok fields)) }
+    ensures ok { IfOk result (λ v. schema_in (members_view members.now.entries) ≡ Some v.items) }
+    ensures err { IfErr result (λ e. e ≢ Memory → (e ≡ WrongKind) × (schema_in (members_view members.now.entries) ≡ None)) }
+    ensures due { IfErr result (λ e. e ≡ Memory → (fields : Schema) × (schema_in (members_view members.now.entries) ≡ Some fields)) }
     ensures few { IfOk result (λ v. length v.items ≤ field_limit) }
     ensures rising { IfOk result (λ v. IsTextSet (map (λ f. f.name) v.items)) }
     ensures named { IfOk result (λ v. AllByRecursion (λ f. IsTrue (is_field_name f.name)) v.items) }

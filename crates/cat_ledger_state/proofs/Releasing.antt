@@ -6,8 +6,7 @@ use Rattle.std.proofs.lemmas.Bool.Decides.{eqb_tells}
 use Rattle.cat_model.specs.Files.{Name}
 use Rattle.cat_model.specs.Limits.{snapshot_limit}
 use Rattle.cat_model.specs.CommitFile.{CommitFile}
-use Rattle.cat_model.specs.Run.{is_newest}
-use Rattle.cat_model.specs.State.{Taken, snapshots_in, stays_kept}
+use Rattle.cat_model.specs.State.{Taken, snapshots_in, stays_kept, is_newest}
 use Rattle.cat_ledger_laws.specs.model.Users.{Used, users_of, is_known, Changes}
 use Rattle.cat_ledger_laws.specs.shape.Shapes.{Shape, IsShape, names_of_commits}
 use Rattle.cat_ledger_laws.specs.shape.Steps.{IsSnapped, IsUnsnapped, Leaves, newest_generation}

@@ -3,8 +3,7 @@ use Rattle.std.specs.Prelude.{ℕ, ◌+◌, ◌-◌, ◌==◌, ◌||◌, ltb, co
 use Rattle.cat_model.specs.Text.{Text}
 use Rattle.cat_model.specs.Files.{Name}
 use Rattle.cat_model.specs.CommitFile.{CommitFile, commit_needs}
-use Rattle.cat_model.specs.Run.{is_newest}
-use Rattle.cat_model.specs.State.{Taken, snapshots_in, stays_kept}
+use Rattle.cat_model.specs.State.{Taken, snapshots_in, stays_kept, is_newest}
 use Rattle.cat_model.specs.View.{View, needs}
 use Rattle.cat_ledger_laws.specs.model.Users.{times}
 use Rattle.cat_ledger_laws.specs.shape.Shapes.{Shape, names_of_commits}

@@ -10,7 +10,7 @@ use Rattle.cat_base.specs.Bytes.{spelled_u32, spelled_u64, spelled_bytes}
 use Rattle.cat_base.proofs.Spellings.{u32_exact, u64_exact, bytes_exact}
 use Rattle.cat_model.specs.Text.{Text, same_text}
 use Rattle.cat_model.specs.Item.{Schema, IsSchema, Field, Kind, has_name_form, is_name_byte, is_field_name}
-use Rattle.cat_model.specs.SegmentFile.{kind_byte, spelled_field, spelled_fields}
+use Rattle.cat_model.specs.Layout.{kind_byte, spelled_field, spelled_fields}
 use Rattle.cat_model.specs.CommitFile.{Version, ListedSegment, CommitFile, HasText, IsListed, IsCommitFile, version_byte, spelled_text, spelled_listed}
 use Rattle.cat_model.specs.SegmentLaws.{CommitsAreToldByTheirBytes}
 use Rattle.cat_model.proofs.Lists.{All-weaken}

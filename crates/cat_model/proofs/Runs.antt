@@ -1,6 +1,7 @@
 -- What a run keeps: no record and no hold has a token past the number of writes.
 use Rattle.std.proofs.Common.{◌≡◌, ℕ, ◌≤◌, ◌<◌, max, List, [], ◌∷◌, ◌++◌, length, Bool, true, false, cond, ◌||◌, ltb, Option, Some, None, refl, sym, ◌∙◌, ap, subst, arith, append-nil, append_assoc, inl, inr}
 use Rattle.std.specs.Prelude.{◌⊎◌, Ok, Err, ◌==◌}
+use Rattle.std.specs.Option.{unwrap_or}
 use Rattle.std.specs.List.{list_any, filter, filter_map, cons_option, last_or, count_by, AllByRecursion}
 use Rattle.std.proofs.lemmas.Bool.Decides.{nat_tests, leb_tells, eqb_tells}
 use Rattle.std.proofs.lemmas.List.Elements.{filter_map-append}
@@ -9,7 +10,8 @@ use Rattle.cat_base.specs.declared.refusal.Refusal.{Refusal}
 use Rattle.cat_base.specs.declared.refusal.Refusal.TheVariants.{Gone, Memory}
 use Rattle.cat_model.specs.Table.{Start, Opened, table, count, writes_up_to}
 use Rattle.cat_model.specs.Answer.{Read, answer, query_refusal}
-use Rattle.cat_model.specs.Run.{Command, Answer, Reply, Exchange, Run, accepted, writes, now, hold_by, hold_change, began, holds, sessions, is_held, has, without_least_free, pruned, with_view, view_tokens_by, view_tokens_from, view_tokens, greatest, found_reply, or_not_held, Answers, Refuses, Stops, Fits, FitsFrom, IsRun}
+use Rattle.cat_model.specs.Run.{Command, Answer, Reply, Exchange, Run, accepted, writes, now, hold_by, holds, sessions, is_held, has, without_least_free, pruned, with_view, view_tokens_by, view_tokens_from, view_tokens, greatest, found_reply, or_not_held, Answers, Refuses, Stops, Fits, FitsFrom, IsRun}
+use Rattle.cat_model.specs.State.{hold_change}
 use Rattle.cat_model.specs.Limits.{view_limit}
 use Rattle.cat_model.specs.Laws.{RunsGoOn, IsBounded, RunsAreBounded, HeldRead, HeldReadIsOfItsTable, HeldReadsAgree}
 use Rattle.cat_model.proofs.Lists.{All-weaken, All-both, All-kept, list_any-append}
@@ -52,13 +54,13 @@ abbrev pub changed : Option Bool → Bool → Bool
 changed None b = b
 changed (Some c) b = c
 
-began-push : (bs : List Bool) (o : Option Bool) → began (last_or None (bs ++ cons_option o [])) ≡ changed o (began (last_or None bs))
-began-push bs None = ap (λ l. began (last_or None l)) (append-nil bs)
-began-push bs (Some c) = ap began (last_or-append None bs c)
+began-push : (bs : List Bool) (o : Option Bool) → unwrap_or (last_or None (bs ++ cons_option o [])) false ≡ changed o (unwrap_or (last_or None bs) false)
+began-push bs None = ap (λ l. unwrap_or (last_or None l) false) (append-nil bs)
+began-push bs (Some c) = ap (λ o. unwrap_or o false) (last_or-append None bs c)
 
 pub holds-push : (s t : ℕ) (run : Run) (e : Exchange) → holds s t (run ++ e ∷ []) ≡ changed (hold_change s t e) (holds s t run)
 holds-push s t run e =
-    ap (λ l. began (last_or None l)) (filter_map-append (hold_change s t) run (e ∷ []))
+    ap (λ l. unwrap_or (last_or None l) false) (filter_map-append (hold_change s t) run (e ∷ []))
     ∙ began-push (filter_map (hold_change s t) run) (hold_change s t e)
 
 pub now-push : (start : Start) (run : Run) (e : Exchange) → now start run ≤ now start (run ++ e ∷ [])
@@ -162,7 +164,7 @@ any_at p s (x ∷ xs) k h =
 pub held_by_one : (s t : ℕ) (run : Run) → holds s t run ≡ true → is_held run t ≡ true
 held_by_one s t run h =
     elim (spoken s t run) [
-      | inl e ↦ absurd (let k : false ≡ true = sym (ap (λ bs. began (last_or None bs)) e) ∙ h in cc)
+      | inl e ↦ absurd (let k : false ≡ true = sym (ap (λ bs. unwrap_or (last_or None bs) false) e) ∙ h in cc)
       | inr e ↦ any_at (λ u. holds u t run) s (sessions run) h e
     ]
 

@@ -9,8 +9,8 @@ use Rattle.cat_model.specs.Text.{Text}
 use Rattle.cat_model.specs.Item.{Content, Field, Kind, content_of, words_in, keyword_in, labels_in}
 use Rattle.cat_model.specs.Ordinals.{dictionary_of, postings_of}
 use Rattle.cat_model.specs.View.{item_in}
-use Rattle.cat_model.specs.SegmentFile.{spelled_fields, spelled_list, spelled_texts, ordinal_in, code_in, spelled_word_column, spelled_keyword_column, spelled_label_column, spelled_contents, spelled_row}
-use Rattle.cat_model.specs.Layout.{WordPostings, Laid, keywords_of, word_postings_of, laid_as, column_of, head_of, spelled_head, spelled_postings, spelled_column}
+use Rattle.cat_model.specs.SegmentFile.{ordinal_in, code_in, spelled_word_column, spelled_keyword_column, spelled_label_column, spelled_contents, spelled_row}
+use Rattle.cat_model.specs.Layout.{spelled_fields, spelled_list, spelled_texts, WordPostings, Laid, keywords_of, word_postings_of, laid_as, column_of, head_of, spelled_head, spelled_postings, spelled_column}
 use Rattle.cat_model.specs.SegmentLaws.{SegmentsAreSpelledAsLaid}
 
 words_as_laid : (rows : List (List Text)) → spelled_word_column rows ≡ spelled_column (Laid.words (word_postings_of rows))

@@ -1,6 +1,7 @@
 -- A hold that the bytes show is a hold of the run.
 use Rattle.std.proofs.Common.{inl, inr, ◌≡◌, ◌≢◌, ◌⊎◌, ℕ, ◌+◌, ◌≤◌, ◌<◌, ◌^◌, List, [], ◌∷◌, ◌++◌, map, length, ltb, refl, sym, ◌∙◌, ap, subst, append_assoc, append-nil, arith, codes, eq-eqb}
 use Rattle.std.specs.Prelude.{Contains, Option, None, Some, Ok, Err, true, false, Bool, cond, ◌==◌}
+use Rattle.std.specs.Option.{unwrap_or}
 use Rattle.std.specs.List.{filter_map, cons_option, last_or, AllByRecursion}
 use Rattle.std.specs.Fmt.{decimal}
 use Rattle.std.proofs.lemmas.Fmt.{decimal_injective}
@@ -14,7 +15,8 @@ use Rattle.cat_model.specs.Item.{Schema}
 use Rattle.cat_model.specs.Write.{Write}
 use Rattle.cat_model.specs.Table.{Opened}
 use Rattle.cat_model.specs.Lines.{Said, spaced, spelling, line_text, reply_text, HasForm}
-use Rattle.cat_model.specs.Run.{Command, Answer, Reply, Exchange, Run, accepted, accepted_by, writes, now, hold_by, hold_change, began, holds, has, view_tokens, greatest, Answers, Stops, Fits, FitsFrom, IsRun}
+use Rattle.cat_model.specs.Run.{Command, Answer, Reply, Exchange, Run, accepted, accepted_by, writes, now, hold_by, holds, has, view_tokens, greatest, Answers, Stops, Fits, FitsFrom, IsRun}
+use Rattle.cat_model.specs.State.{hold_change}
 use Rattle.cat_model.specs.Limits.{last_number}
 use Rattle.cat_model.specs.Heard.{Json, Hears, IsCommand}
 use Rattle.cat_model.specs.Served.{Outcome, heard, exchange, outcome_text}
@@ -219,19 +221,19 @@ last_or-last : {A : Type 0} (o : Option A) (xs ys : List A) (x : A) → last_or 
 last_or-last o [] ys x = refl
 last_or-last o (y ∷ xs) ys x = last_or-last (Some y) xs ys x
 
-stays : (s t : ℕ) (run : Run) → AllByRecursion (λ x. hold_change s t x ≢ Some false) run → began (last_or (Some true) (filter_map (hold_change s t) run)) ≡ true
+stays : (s t : ℕ) (run : Run) → AllByRecursion (λ x. hold_change s t x ≢ Some false) run → unwrap_or (last_or (Some true) (filter_map (hold_change s t) run)) false ≡ true
 stays s t [] a = refl
 stays s t (x ∷ run) a = by (stays s t run a.1) (hold_change s t x) a.0
   where
-    by : began (last_or (Some true) (filter_map (hold_change s t) run)) ≡ true → (o : Option Bool) → o ≢ Some false → began (last_or (Some true) (cons_option o (filter_map (hold_change s t) run))) ≡ true
+    by : unwrap_or (last_or (Some true) (filter_map (hold_change s t) run)) false ≡ true → (o : Option Bool) → o ≢ Some false → unwrap_or (last_or (Some true) (cons_option o (filter_map (hold_change s t) run))) false ≡ true
     by rest None h = rest
     by rest (Some true) h = rest
     by rest (Some false) h = absurd (h refl)
 
 held_on : (s t : ℕ) (past : Run) (x : Exchange) (since : Run) → hold_change s t x ≡ Some true → AllByRecursion (λ y. hold_change s t y ≢ Some false) since → holds s t (past ++ x ∷ since) ≡ true
 held_on s t past x since e a =
-    ap (λ l. began (last_or None l)) (filter_map-append (hold_change s t) past (x ∷ since) ∙ ap (λ o. filter_map (hold_change s t) past ++ cons_option o (filter_map (hold_change s t) since)) e)
-    ∙ ap began (last_or-last None (filter_map (hold_change s t) past) (filter_map (hold_change s t) since) true)
+    ap (λ l. unwrap_or (last_or None l) false) (filter_map-append (hold_change s t) past (x ∷ since) ∙ ap (λ o. filter_map (hold_change s t) past ++ cons_option o (filter_map (hold_change s t) since)) e)
+    ∙ ap (λ o. unwrap_or o false) (last_or-last None (filter_map (hold_change s t) past) (filter_map (hold_change s t) since) true)
     ∙ stays s t since a
 
 pub all_split : {X : Type 0} (P : X → Type 0) (xs ys : List X) → AllByRecursion P (xs ++ ys) → AllByRecursion P xs × AllByRecursion P ys

@@ -4,8 +4,8 @@ use Rattle.std.specs.Prelude.{zero, true, false, cond}
 use Rattle.std.specs.List.{AllByRecursion}
 use Rattle.std.specs.Io.BufRead.{strip_last, ends_with_byte}
 use Rattle.std.proofs.lemmas.Bool.Decides.{eqb_tells}
-use Rattle.cat_model.specs.Text.{Text, IsOneLine}
-use Rattle.cat_model.specs.Input.{ended_after, rest_after, last_line, ended_lines, lines_of}
+use Rattle.cat_model.specs.Text.{Text, IsOneLine, one_or_none}
+use Rattle.cat_model.specs.Input.{ended_after, rest_after, ended_lines, lines_of}
 use Rattle.cat_model.proofs.Lists.{All-both}
 
 taken : (n : ℕ) (xs : Text) → IsOneLine xs → IsOneLine (take n xs)
@@ -32,7 +32,7 @@ rest_one front (b ∷ bytes) a =
       | inr e ↦ subst (λ c. IsOneLine (cond c (rest_after [] bytes) (rest_after (front ++ b ∷ []) bytes))) (sym e.0) (rest_one (front ++ b ∷ []) bytes (All-both (λ x. x ≢ 10) front (b ∷ []) a (e.1, tt)))
     ]
 
-last_one : (line : Text) → IsOneLine line → AllByRecursion IsOneLine (last_line line)
+last_one : (line : Text) → IsOneLine line → AllByRecursion IsOneLine (one_or_none line)
 last_one [] a = tt
 last_one (b ∷ line) a = (a, tt)
 
@@ -41,4 +41,4 @@ ended_are_lines bytes = ended_one [] bytes tt
 
 pub lines_are_lines : (bytes : Text) → AllByRecursion IsOneLine (lines_of bytes)
 lines_are_lines [] = (tt, tt)
-lines_are_lines (b ∷ bytes) = All-both IsOneLine (ended_lines (b ∷ bytes)) (last_line (rest_after [] (b ∷ bytes))) (ended_are_lines (b ∷ bytes)) (last_one (rest_after [] (b ∷ bytes)) (rest_one [] (b ∷ bytes) tt))
+lines_are_lines (b ∷ bytes) = All-both IsOneLine (ended_lines (b ∷ bytes)) (one_or_none (rest_after [] (b ∷ bytes))) (ended_are_lines (b ∷ bytes)) (last_one (rest_after [] (b ∷ bytes)) (rest_one [] (b ∷ bytes) tt))

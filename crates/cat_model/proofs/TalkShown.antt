@@ -2,6 +2,7 @@
 use Rattle.std.proofs.Common.{◌≡◌, ◌≢◌, ◌⊎◌, ℕ, ◌+◌, ◌<◌, ◌≤◌, List, [], ◌∷◌, ◌++◌, map, length, ltb, sym, ◌∙◌, refl, ap, subst, arith, codes, true≢false}
 use Rattle.std.specs.Prelude.{find, not, ◌&&◌, ◌==◌, option_map, Option, None, Some, Result, Ok, Err, true, false, Bool, cond, IsTrue}
 use Rattle.std.specs.List.{flat_map, filter_map, cons_option, list_all, AllByRecursion}
+use Rattle.std.specs.Option.{option_map_or}
 use Rattle.std.specs.Fmt.{decimal}
 use Rattle.std.proofs.lemmas.Bool.{and_parts}
 use Rattle.cat_base.specs.declared.refusal.Refusal.{Refusal}
@@ -20,7 +21,7 @@ use Rattle.cat_model.specs.Forms.{is_plain_byte}
 use Rattle.cat_model.specs.Limits.{last_number, snapshot_limit, commit_text_limit}
 use Rattle.cat_model.specs.Table.{Start, Opened, CommitText, numbered, put_by, stands, table}
 use Rattle.cat_model.specs.Answer.{Read, Found, stored, can_sort, has_mark, is_facet_kind, answer, query_refusal}
-use Rattle.cat_model.specs.Run.{Chore, Command, News, may_tell, Answer, Reply, Run, writes, now, holds, has, is_held, is_full, view_tokens, commits, generations, found_text, commit_under, text_under, newest_commit, snapshots, is_kept, snapshot_of, found_reply, or_not_held, Answers, Stops}
+use Rattle.cat_model.specs.Run.{Chore, Command, News, may_tell, Answer, Reply, Run, writes, now, holds, has, is_held, is_full, view_tokens, commits, generations, commit_under, text_under, newest_commit, snapshots, is_kept, snapshot_of, found_reply, or_not_held, Answers, Stops}
 use Rattle.cat_model.specs.Lines.{Said}
 use Rattle.cat_model.specs.Heard.{Json, IsCommand, id_of, commit_text_of}
 use Rattle.cat_model.specs.Served.{NamesFiles}
@@ -214,7 +215,7 @@ files_shown false a e f n = subst Shown (sym f) tt
 abbrev pub ShownText : CommitText → Type 0
 ShownText c = IsOneLine c.text
 
-text_shown : (o : Option CommitText) → OfOption ShownText o → IsOneLine (found_text o)
+text_shown : (o : Option CommitText) → OfOption ShownText o → IsOneLine (option_map_or (λ c. c.text) o [])
 text_shown None a = tt
 text_shown (Some c) a = a
 

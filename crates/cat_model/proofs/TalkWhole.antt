@@ -3,6 +3,7 @@ use Rattle.std.proofs.Common.{inl, inr, ◌≡◌, ◌≢◌, ℕ, List, [], ◌
 use Rattle.std.specs.Prelude.{Option, None, Some, Result, Ok, option_to_list}
 use Rattle.cat_base.specs.declared.refusal.Refusal.{Refusal}
 use Rattle.std.specs.List.{flat_map, cons_option, AllByRecursion}
+use Rattle.std.specs.Option.{option_map_or}
 use Rattle.std.specs.Fmt.{decimal}
 use Rattle.std.proofs.lemmas.List.{append_cancel_right}
 use Rattle.cat_model.specs.Text.{Text, IsOneLine}
@@ -10,7 +11,7 @@ use Rattle.cat_model.specs.Item.{Schema, IsSchema}
 use Rattle.cat_model.specs.Write.{Write}
 use Rattle.cat_model.specs.Table.{Opened, CommitText}
 use Rattle.cat_model.specs.Lines.{Said, spaced, spelling, line_text}
-use Rattle.cat_model.specs.Run.{Command, Answer, Reply, Exchange, Run, accepted, accepted_by, writes, commit_by, commits, found_text, Fits, FitsFrom, IsRun}
+use Rattle.cat_model.specs.Run.{Command, Answer, Reply, Exchange, Run, accepted, accepted_by, writes, commit_by, commits, Fits, FitsFrom, IsRun}
 use Rattle.cat_model.specs.Heard.{Json, Hears, IsCommand, commit_text_of}
 use Rattle.cat_model.specs.Input.{lines_of, ended_lines}
 use Rattle.cat_model.specs.Served.{Opening, Begins, Outcome, heard, exchange, outcome_text, NamesFiles, TellsFiles, IsServed, Answered}
@@ -55,7 +56,7 @@ record IsCommitted (c : Command) (k : CommitText) : Type 0 where
 
 committed_by : (c : Command) (r : Reply) (k : CommitText) → commit_by c r ≡ Some k → IsCommitted c k
 committed_by (Command.commit (Ok text)) (Ok (Answer.number g)) k e =
-    let same : text ≡ k.text = ap (λ o. found_text o) e in
+    let same : text ≡ k.text = ap (λ o. option_map_or (λ (c : CommitText). c.text) o []) e in
     record { command = ap (λ t. Command.commit (Ok t)) same }
 committed_by _ _ k e = absurd (cc e)
 

@@ -1,12 +1,12 @@
 -- The file of a commit, `segments_<g>`: Lucene's SegmentInfos, a list of SegmentCommitInfo with user data. The layout is our own.
 use Rattle.std.specs.Prelude.{◌≡◌, ◌≢◌, ℕ, ◌+◌, ◌<◌, ◌≤◌, ◌==◌, List, [], ◌∷◌, ◌++◌, length, codes, cond, All, AllPairs}
 use Rattle.std.specs.List.{flat_map}
-use Rattle.cat_base.specs.Bytes.{spelled_u32, spelled_u64, spelled_bytes}
+use Rattle.cat_base.specs.Bytes.{spelled_u64, spelled_bytes}
 use Rattle.cat_model.specs.Text.{Text}
 use Rattle.cat_model.specs.Item.{Schema, IsSchema}
 use Rattle.cat_model.specs.Forms.{IsCommitText}
 use Rattle.cat_model.specs.Files.{Name, IsFileNumber}
-use Rattle.cat_model.specs.SegmentFile.{spelled_fields}
+use Rattle.cat_model.specs.SegmentFile.{spelled_each, spelled_field}
 use Rattle.cat_model.specs.Limits.{last_number, segment_limit}
 
 -- The two versions of the file. The first knows no text; it is read, and the second alone is written.
@@ -76,8 +76,7 @@ spelled_listed s = spelled_u64 s.number ++ spelled_u64 s.file
 abbrev pub spelled_commit : CommitFile → List ℕ
 spelled_commit c =
     codes "CSGM" ++ (version_byte c.version ∷ (spelled_u64 c.generation ++ (spelled_u64 c.token ++ (spelled_u64 c.next
-    ++ (spelled_text c.version c.text ++ (spelled_fields c.schema
-    ++ (spelled_u32 (length c.segments) ++ flat_map spelled_listed c.segments)))))))
+    ++ (spelled_text c.version c.text ++ (spelled_each spelled_field c.schema ++ spelled_each spelled_listed c.segments))))))
 
 -- the bytes are those of the commit's file
 pub record SpellsCommit (bytes : List ℕ) (c : CommitFile) : Type 0 where

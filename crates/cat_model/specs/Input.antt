@@ -2,7 +2,7 @@
 use Rattle.std.specs.Prelude.{List, [], ◌∷◌, ◌++◌, ◌==◌, if◌then◌else◌, Option}
 use Rattle.std.specs.Io.BufRead.{strip_last}
 use Rattle.std.specs.Io.KnownBytes.{IsAtEnd}
-use Rattle.cat_model.specs.Text.{Text}
+use Rattle.cat_model.specs.Text.{Text, one_or_none}
 
 -- The lines that a line feed ends, where `front` has come of the first one. A carriage return just before the line feed is dropped.
 abbrev pub ended_after : Text → Text → List Text
@@ -15,19 +15,14 @@ abbrev pub rest_after : Text → Text → Text
 rest_after front [] = front
 rest_after front (b ∷ bytes) = if b == 10 then rest_after [] bytes else rest_after (front ++ b ∷ []) bytes
 
--- a last line without a line feed counts if it isn't empty
-abbrev pub last_line : Text → List Text
-last_line [] = []
-last_line (b ∷ bytes) = (b ∷ bytes) ∷ []
-
 -- the lines that a line feed ends
 abbrev pub ended_lines : Text → List Text
 ended_lines bytes = ended_after [] bytes
 
--- an input of no bytes has one line, which is empty
+-- a last line without a line feed counts if it isn't empty; an input of no bytes has one line, which is empty
 abbrev pub lines_of : Text → List Text
 lines_of [] = [] ∷ []
-lines_of (b ∷ bytes) = ended_lines (b ∷ bytes) ++ last_line (rest_after [] (b ∷ bytes))
+lines_of (b ∷ bytes) = ended_lines (b ∷ bytes) ++ one_or_none (rest_after [] (b ∷ bytes))
 
 -- The lines that had come, where these bytes were read: those that a line feed ended, and at the end of the input all.
 pub data HaveCome (bytes : Text) (left : Option Text) : List Text → Type 0 where

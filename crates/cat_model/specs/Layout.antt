@@ -11,10 +11,14 @@ use Rattle.cat_model.specs.Forms.{IsKeyword, IsLabel, IsWord, IsSourceLength}
 use Rattle.cat_model.specs.Ordinals.{dictionary_of, postings_of, texts_of}
 use Rattle.cat_model.specs.Files.{IsFileNumber}
 use Rattle.cat_model.specs.View.{Row, Segment, item_in}
-pub use Rattle.cat_model.specs.SegmentFile.{kind_byte, spelled_field, spelled_fields, spelled_list, spelled_texts, spelled_number, ordinal_in, code_in, SpellsSegment}
+pub use Rattle.cat_model.specs.SegmentFile.{kind_byte, spelled_each, spelled_field, spelled_number, ordinal_in, code_in, SpellsSegment}
 use Rattle.cat_model.specs.Limits.{row_limit}
 
 -- ---- what is laid out
+
+-- the words that rows have in the field of this name
+abbrev pub words_of_field : List Row → Text → List Text
+words_of_field rows name = dictionary_of (map (λ r. words_in (content_of name (item_in r))) rows)
 
 -- a word, and its postings: the indices of the rows that have it
 pub record WordPostings : Type 0 where
@@ -73,6 +77,18 @@ layout_of s =
     record { number = s.number; schema = s.schema; heads = map head_of s.rows; columns = map (column_of s.rows) s.schema }
 
 -- ---- its bytes
+
+-- the fields
+abbrev pub spelled_fields : Schema → List ℕ
+spelled_fields = spelled_each spelled_field
+
+-- numbers
+abbrev pub spelled_list : List ℕ → List ℕ
+spelled_list = spelled_each spelled_u32
+
+-- texts
+abbrev pub spelled_texts : List Text → List ℕ
+spelled_texts = spelled_each spelled_bytes
 
 -- the number, the id, and how long the source is
 abbrev pub spelled_head : Head → List ℕ

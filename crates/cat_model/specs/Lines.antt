@@ -1,11 +1,12 @@
 -- What a line says and the one way to spell it, and the text of a reply. The protocol is our own.
 use Rattle.std.specs.Prelude.{◌≡◌, ℕ, ◌<◌, ◌≤◌, ◌^◌, ◌⊎◌, List, [], ◌∷◌, ◌++◌, codes, map, length, IsUtf8, IsTrue, Option, None, Some, IfSome, Ok, Err}
 use Rattle.std.specs.List.{flat_map}
+use Rattle.std.specs.Option.{option_map_or, unwrap_or}
 use Rattle.std.specs.Fmt.{decimal, signed_decimal}
 use Rattle.cat_base.specs.declared.refusal.Refusal.{Refusal}
 use Rattle.cat_base.specs.declared.refusal.Refusal.TheVariants as refusal
 use Rattle.cat_base.specs.Refusals.{number_of}
-use Rattle.cat_model.specs.Text.{Text}
+use Rattle.cat_model.specs.Text.{Text, one_or_none}
 use Rattle.cat_model.specs.Item.{has_name_form}
 use Rattle.cat_model.specs.Page.{Sort, Key, Entry}
 use Rattle.cat_model.specs.Facets.{Counted}
@@ -51,13 +52,7 @@ sort_text (Sort.falling name) = codes "-" ++ name
 
 -- a dot for no mark, or the number of a record
 abbrev pub mark_text : Option ℕ → Text
-mark_text None = codes "."
-mark_text (Some n) = decimal n
-
--- the text of a commit, if there is any: the empty one is given by a COMMIT alone
-abbrev pub commit_words : Text → List Text
-commit_words [] = []
-commit_words (b ∷ text) = (b ∷ text) ∷ []
+mark_text mark = option_map_or decimal mark (codes ".")
 
 -- the name of the maintenance
 abbrev pub chore_name : Chore → Text
@@ -68,7 +63,7 @@ chore_name Chore.sweep = codes "SWEEP"
 chore_name Chore.stat = codes "STAT"
 
 -- The name of the command and its arguments, each spelled. The last one is the rest of the line, whatever it is: an item, an
--- id, a query or the text of a commit.
+-- id, a query or the text of a commit, of which the empty one is given by a COMMIT alone.
 abbrev pub spelling : Said → List Text
 spelling (Said.put item) = codes "PUT" ∷ item ∷ []
 spelling (Said.delete id) = codes "DEL" ∷ id ∷ []
@@ -82,7 +77,7 @@ spelling (Said.facets t dim n query) = codes "FACETS" ∷ decimal t ∷ dim ∷ 
 spelling (Said.get t id) = codes "GET" ∷ decimal t ∷ id ∷ []
 spelling (Said.files_of_token t) = codes "FILES" ∷ codes "t" ∷ decimal t ∷ []
 spelling (Said.files_of_commit g) = codes "FILES" ∷ codes "g" ∷ decimal g ∷ []
-spelling (Said.commit text) = codes "COMMIT" ∷ commit_words text
+spelling (Said.commit text) = codes "COMMIT" ∷ one_or_none text
 spelling (Said.text_of_commit g) = codes "NOTE" ∷ decimal g ∷ []
 spelling Said.snapshot = codes "SNAP" ∷ []
 spelling (Said.release_snapshot g) = codes "UNSNAP" ∷ decimal g ∷ []
@@ -145,8 +140,7 @@ key_text (Some (Key.keyword k)) = codes "=" ++ k
 
 -- a stored item, or a dot where there is none
 abbrev pub source_text : Option Text → Text
-source_text None = codes "."
-source_text (Some source) = source
+source_text stored = unwrap_or stored (codes ".")
 
 -- what maintenance tells
 abbrev pub news_words : News → List Text

@@ -44,10 +44,6 @@ open_or test (Some x) = test x
 abbrev pub int_le : ℤ → ℤ → Bool
 int_le a b = not (int_lt b a)
 
--- the numbers are the same
-abbrev pub same_int : ℤ → ℤ → Bool
-same_int a b = int_le a b && int_le b a
-
 -- what one clause says, where all clauses have to say yes
 abbrev pub obeys : Sign → Bool → Bool
 obeys Sign.must b = b
@@ -80,7 +76,7 @@ abbrev mutual
   primary_matches (Primary.keyword_prefix f p) i = has_some (has_prefix p) (keyword_in (content_of f i))
   primary_matches (Primary.keyword_range f low high) i =
       has_some (λ k. open_or (λ a. text_le a k) low && open_or (text_le k) high) (keyword_in (content_of f i))
-  primary_matches (Primary.number f n) i = has_some (same_int n) (number_in (content_of f i))
+  primary_matches (Primary.number f n) i = has_some (λ m. int_le n m && int_le m n) (number_in (content_of f i))
   primary_matches (Primary.number_range f low high) i =
       has_some (λ n. open_or (λ a. int_le a n) low && open_or (int_le n) high) (number_in (content_of f i))
   primary_matches (Primary.label f l) i = list_any (same_text l) (labels_in (content_of f i))

@@ -3,12 +3,11 @@ use Rattle.std.specs.Prelude.{◌≡◌, ◌≢◌, ◌⊎◌, ℕ, ◌<◌, ◌
 use Rattle.std.specs.List.{AllByRecursion}
 use Rattle.cat_model.specs.Text.{Text}
 use Rattle.cat_model.specs.Item.{Schema}
-use Rattle.cat_model.specs.Run.{Run, SegmentStat, newest_commit}
+use Rattle.cat_model.specs.Run.{Run, newest_commit}
 use Rattle.cat_model.specs.Table.{Opened}
 use Rattle.cat_model.specs.Heard.{Json}
 use Rattle.cat_model.specs.Files.{IsFileName, Name}
 use Rattle.cat_model.specs.Served.{Ending, ServesBy, SpellsSchema, exchange}
-use Rattle.cat_model.specs.View.{Leaf}
 use Rattle.cat_model.specs.Told.{CountsOne, DirectoryKind, FileContent, IsNewestTold, IsToldToHave, LeftByName, MayBeLeft, MayHave, TellsAlways, TellsNoCommit, ToldByName, told_of}
 use Rattle.cat_model.specs.Restored.{IsRestored, Restored}
 use Rattle.cat_model.specs.Opens.{BeginsFrom}
@@ -38,10 +37,6 @@ pub record AreFirstNumbers (names : List Name) (n g : ℕ) : Type 0 where
 
 -- ---- how the service stands at first
 
--- what STAT tells of a segment that stands
-abbrev pub leaf_stat : Leaf → SegmentStat
-leaf_stat leaf = record { number = leaf.segment.number; rows = length leaf.segment.rows; live = count_by (λ b. b) leaf.live }
-
 -- It begins at the newest commit: its segments stand, and the next one has a number that is above those in names of files, and no less
 -- than the commit tells.
 pub record BeginsWith (told : ToldByName) (schema : Schema) (first : ℕ) (s : Standing) : Type 0 where
@@ -49,7 +44,8 @@ pub record BeginsWith (told : ToldByName) (schema : Schema) (first : ℕ) (s : S
   pub newest : IsNewestTold told generation
   pub restored : Restored
   pub held : IsRestored (MayHave told) schema generation restored
-  pub segments : s.stat.segments ≡ map leaf_stat restored.leaves
+  pub segments : s.stat.segments
+      ≡ map (λ leaf. record { number = leaf.segment.number; rows = length leaf.segment.rows; live = count_by (λ b. b) leaf.live }) restored.leaves
   pub next : s.next_segment ≡ max first restored.commit.next
 
 -- How it stands before the first line: at the newest commit, or without a segment where no commit is there; nothing waits, no merge is in the

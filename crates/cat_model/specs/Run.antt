@@ -10,8 +10,9 @@
 -- keeps, is nobody's promise. A COMMIT may be told any generation above those before it.
 --
 -- Each command but `formless` is what some line says (`Said` of Lines.antt), and is answered.
-use Rattle.std.specs.Prelude.{◌≡◌, ◌⊎◌, ℕ, ◌+◌, ◌-◌, ◌<◌, ◌≤◌, Bool, true, false, not, ◌&&◌, ◌||◌, ltb, max, List, [], ◌∷◌, ◌++◌, length, filter, filter_map, map, count_by, Option, Some, None, option_map, option_to_list, find, Result, Ok, Err, cond, IsTrue, ◌==◌}
-use Rattle.std.specs.List.{cons_option, list_any, list_all, last_or}
+use Rattle.std.specs.Prelude.{◌≡◌, ◌⊎◌, ℕ, ◌+◌, ◌-◌, ◌<◌, ◌≤◌, Bool, true, false, not, ◌&&◌, ◌||◌, ltb, max, List, [], ◌∷◌, ◌++◌, length, filter, filter_map, map, count_by, Option, Some, None, option_to_list, find, Result, Ok, Err, cond, IsTrue, ◌==◌}
+use Rattle.std.specs.List.{list_any, list_all, last_or}
+use Rattle.std.specs.Option.{option_map_or, unwrap_or}
 use Rattle.cat_base.specs.declared.refusal.Refusal.{Refusal}
 use Rattle.cat_base.specs.Refusals.{number_of}
 use Rattle.cat_base.specs.declared.refusal.Refusal.TheVariants.{Line as NoForm, Spent, NotHeld, Gone, Full, NoCommit, NoSnapshot, Device, Damaged, Memory}
@@ -149,18 +150,9 @@ hold_by t (Command.open_at v) (Ok (Answer.number u)) = cond (u == t) (Some true)
 hold_by t (Command.close u) (Ok a) = cond (u == t) (Some false) None
 hold_by t _ _ = None
 
--- the same for the session, which only its own lines change
-abbrev pub hold_change : ℕ → ℕ → Exchange → Option Bool
-hold_change s t e = cond (e.line.session == s) (hold_by t e.line.command e.reply) None
-
--- the last change began a hold
-abbrev pub began : Option Bool → Bool
-began None = false
-began (Some b) = b
-
 -- the session has been answered an OPEN with this token, and no CLOSE of it after that
 abbrev pub holds : ℕ → ℕ → Run → Bool
-holds s t run = began (last_or None (filter_map (hold_change s t) run))
+holds s t run = unwrap_or (last_or None (filter_map (λ e. cond (e.line.session == s) (hold_by t e.line.command e.reply) None) run)) false
 
 -- the sessions that have spoken
 abbrev pub sessions : Run → List ℕ
@@ -211,41 +203,24 @@ commit_by _ _ = None
 abbrev pub commits : Opened → Run → List CommitText
 commits from run = option_to_list from.commit ++ filter_map (λ e. commit_by e.line.command e.reply) run
 
--- how far a commit reaches: its generation, and how many writes were accepted before it
-pub record CommitMark : Type 0 where
-  pub generation : ℕ
-  pub token : ℕ
+-- the commit, if there is one, has this generation
+abbrev pub has_generation : ℕ → Option CommitText → Bool
+has_generation g c = list_any (λ x. x.generation == g) (option_to_list c)
 
--- the mark of a commit that has n writes before it
-abbrev pub mark_of : ℕ → CommitText → CommitMark
-mark_of n c = record { generation = c.generation; token = n }
+-- How many writes were accepted before the commit of this generation, if the rest of a run made it behind its past. A COMMIT that was
+-- answered OK has all writes of its past.
+abbrev pub committed_from : Start → ℕ → Run → Run → Option ℕ
+committed_from start g past [] = None
+committed_from start g past (e ∷ rest) =
+    cond (has_generation g (commit_by e.line.command e.reply)) (Some (now start past)) (committed_from start g (past ++ e ∷ []) rest)
 
--- the marks of the commits that the rest of a run made, behind its past; a COMMIT that was answered OK has all writes of its past
-abbrev pub marks_from : Start → Run → Run → List CommitMark
-marks_from start past [] = []
-marks_from start past (e ∷ rest) =
-    cons_option (option_map (mark_of (now start past)) (commit_by e.line.command e.reply)) (marks_from start (past ++ e ∷ []) rest)
-
--- the marks of the commits so far: the opened one first, where one was opened, which has the writes of the start
-abbrev pub marks : Opened → Run → List CommitMark
-marks from run = option_to_list (option_map (mark_of from.start.token) from.commit) ++ marks_from from.start [] run
-
--- the token of a mark that was found
-abbrev pub token_of : Option CommitMark → Option ℕ
-token_of m = option_map (λ x. x.token) m
-
--- how many writes were accepted before the commit of this generation
+-- how many writes were accepted before the commit of this generation: the opened one, where one was opened, has those of the start
 abbrev pub committed_at : Opened → Run → ℕ → Option ℕ
-committed_at from run g = token_of (find (λ m. m.generation == g) (marks from run))
+committed_at from run g = cond (has_generation g from.commit) (Some from.start.token) (committed_from from.start g [] run)
 
 -- their generations
 abbrev pub generations : Opened → Run → List ℕ
 generations from run = map (λ c. c.generation) (commits from run)
-
--- the text of a commit that was found
-abbrev pub found_text : Option CommitText → Text
-found_text None = []
-found_text (Some c) = c.text
 
 -- the one of the commits that has this generation
 abbrev pub commit_under : List CommitText → ℕ → Option CommitText
@@ -253,7 +228,7 @@ commit_under cs g = find (λ c. c.generation == g) cs
 
 -- its text
 abbrev pub text_under : List CommitText → ℕ → Text
-text_under cs g = found_text (commit_under cs g)
+text_under cs g = option_map_or (λ c. c.text) (commit_under cs g) []
 
 -- the newest commit, which is kept (KeepOnlyLastCommitDeletionPolicy)
 abbrev pub newest_commit : Opened → Run → Option ℕ
@@ -274,13 +249,9 @@ abbrev pub snapshots : Run → ℕ → ℕ
 snapshots run g =
     count_by (λ e. takes_snapshot g e.line.command e.reply) run - count_by (λ e. gives_snapshot g e.line.command e.reply) run
 
--- the generation is the newest
-abbrev pub is_newest : Option ℕ → ℕ → Bool
-is_newest newest g = list_any (λ h. g == h) (option_to_list newest)
-
 -- the commit is the newest, or has a snapshot
 abbrev pub is_kept : Opened → Run → ℕ → Bool
-is_kept from run g = is_newest (newest_commit from run) g || ltb 0 (snapshots run g)
+is_kept from run g = list_any (λ h. g == h) (option_to_list (newest_commit from run)) || ltb 0 (snapshots run g)
 
 -- whether the session's command is looked at at all
 abbrev pub is_looked_at : ℕ → Command → Bool
@@ -310,8 +281,7 @@ found_reply (Err e) = Err e
 
 -- a fault of the read comes before that its token is not held
 abbrev pub or_not_held : Option Refusal → Reply
-or_not_held None = Err NotHeld
-or_not_held (Some e) = Err e
+or_not_held fault = Err (unwrap_or fault NotHeld)
 
 -- the reply to a read, by whether its token is held: the answer over the table at it
 abbrev pub read_reply : Bool → Schema → List Record → Read → Reply

@@ -5,10 +5,14 @@ use Rattle.std.specs.List.{flat_map, prefix_len}
 use Rattle.std.specs.Int.{w64, cast_unsigned}
 use Rattle.cat_base.specs.Bytes.{spelled_u32, spelled_u64, spelled_bytes}
 use Rattle.cat_model.specs.Text.{Text, same_text}
-use Rattle.cat_model.specs.Item.{Content, Field, Kind, Schema, content_of, words_in, keyword_in, number_in, labels_in}
+use Rattle.cat_model.specs.Item.{Content, Field, Kind, content_of, words_in, keyword_in, number_in, labels_in}
 use Rattle.cat_model.specs.Ordinals.{dictionary_of, postings_of, texts_of}
 use Rattle.cat_model.specs.Files.{IsFileNumber}
 use Rattle.cat_model.specs.View.{Row, Segment, IsSegment, item_in}
+
+-- how many there are, and each
+abbrev pub spelled_each : {A : Type 0} → (A → List ℕ) → List A → List ℕ
+spelled_each spelled xs = spelled_u32 (length xs) ++ flat_map spelled xs
 
 -- ---- the fields
 
@@ -23,25 +27,11 @@ kind_byte Kind.facet = 4
 abbrev pub spelled_field : Field → List ℕ
 spelled_field f = spelled_bytes f.name ++ kind_byte f.kind ∷ []
 
--- the number of fields, and each
-abbrev pub spelled_fields : Schema → List ℕ
-spelled_fields schema = spelled_u32 (length schema) ++ flat_map spelled_field schema
-
 -- ---- the columns: what the rows have in each field
 
--- the number of numbers, and each
-abbrev pub spelled_list : List ℕ → List ℕ
-spelled_list ns = spelled_u32 (length ns) ++ flat_map spelled_u32 ns
-
--- the number of texts, and each
-abbrev pub spelled_texts : List Text → List ℕ
-spelled_texts texts = spelled_u32 (length texts) ++ flat_map spelled_bytes texts
-
--- the words of rows: how many different ones there are, and each with its postings, the indices of the rows that have it
+-- the words of rows, each once, with its postings: the indices of the rows that have it
 abbrev pub spelled_word_column : List (List Text) → List ℕ
-spelled_word_column rows =
-    spelled_u32 (length (dictionary_of rows))
-    ++ flat_map (λ w. spelled_bytes w ++ spelled_list (postings_of w rows)) (dictionary_of rows)
+spelled_word_column rows = spelled_each (λ w. spelled_bytes w ++ spelled_each spelled_u32 (postings_of w rows)) (dictionary_of rows)
 
 -- the ordinal of a text of the dictionary: how many texts stand before it
 abbrev pub ordinal_in : List Text → Text → ℕ
@@ -54,7 +44,8 @@ code_in dictionary (Some text) = suc (ordinal_in dictionary text)
 
 -- the dictionary of the keywords of rows, and the code of each row's keyword
 abbrev pub spelled_keyword_column : (dictionary : List Text) → List (Option Text) → List ℕ
-spelled_keyword_column dictionary values = spelled_texts dictionary ++ flat_map (λ v. spelled_u32 (code_in dictionary v)) values
+spelled_keyword_column dictionary values =
+    spelled_each spelled_bytes dictionary ++ flat_map (λ v. spelled_u32 (code_in dictionary v)) values
 
 -- 0 where the row has no number; else 1, and the number in two's complement
 abbrev pub spelled_number : Option ℤ → List ℕ
@@ -63,7 +54,8 @@ spelled_number (Some z) = 1 ∷ spelled_u64 (cast_unsigned w64 z)
 
 -- the dictionary of the labels of rows, and the ordinals of each row's labels
 abbrev pub spelled_label_column : (dictionary : List Text) → List (List Text) → List ℕ
-spelled_label_column dictionary rows = spelled_texts dictionary ++ flat_map (λ ls. spelled_list (map (ordinal_in dictionary) ls)) rows
+spelled_label_column dictionary rows =
+    spelled_each spelled_bytes dictionary ++ flat_map (λ ls. spelled_each spelled_u32 (map (ordinal_in dictionary) ls)) rows
 
 -- the column of what the rows have in a field of the kind
 abbrev pub spelled_contents : Kind → List (Option Content) → List ℕ
@@ -81,7 +73,7 @@ spelled_row row = spelled_u64 row.number ++ (spelled_bytes row.id ++ spelled_u32
 -- the magic word, the version 1, the number, the number of rows, the fields, the rows, the columns in the fields' order
 abbrev pub spelled_segment : Segment → List ℕ
 spelled_segment s =
-    codes "CSEG" ++ (1 ∷ (spelled_u64 s.number ++ (spelled_u32 (length s.rows) ++ (spelled_fields s.schema
+    codes "CSEG" ++ (1 ∷ (spelled_u64 s.number ++ (spelled_u32 (length s.rows) ++ (spelled_each spelled_field s.schema
     ++ (flat_map spelled_row s.rows
     ++ flat_map (λ f. spelled_contents f.kind (map (λ r. content_of f.name (item_in r)) s.rows)) s.schema)))))
 

@@ -1,16 +1,16 @@
 -- What serving an input says and reads. The rules are our own.
-use Rattle.std.specs.Prelude.{◌≡◌, ℕ, ◌≤◌, ◌⊎◌, List, [], ◌∷◌, ◌++◌, codes, map, filter_map, Option, None, Some, Result, Ok, Err}
+use Rattle.std.specs.Prelude.{◌≡◌, ℕ, ◌≤◌, ◌⊎◌, List, [], ◌∷◌, ◌++◌, codes, map, filter_map, Option, None, Some, IfSome, Result, Ok, Err}
 use Rattle.std.specs.List.{flat_map, AllByRecursion}
 use Rattle.std.specs.Fmt.{decimal}
 use Rattle.std.specs.Io.KnownBytes.{Appends, Consumes, IsAtEnd}
 use Rattle.cat_base.specs.declared.refusal.Refusal.{Refusal}
 use Rattle.cat_base.specs.declared.refusal.Refusal.TheVariants.{Line as NoForm, Memory}
-use Rattle.cat_model.specs.Text.{Text}
+use Rattle.cat_model.specs.Text.{IsOneLine, Text}
 use Rattle.cat_model.specs.Item.{Schema}
 use Rattle.cat_model.specs.Table.{Opened}
 use Rattle.cat_model.specs.Limits.{least_factor, greatest_factor, least_minimum, greatest_minimum}
 use Rattle.cat_model.specs.Files.{Name, IsFileName, text_of_name}
-use Rattle.cat_model.specs.Answer.{Found, HasNoLineFeed}
+use Rattle.cat_model.specs.Answer.{Found}
 use Rattle.cat_model.specs.Run.{Answer, Reply, Exchange, IsRun}
 use Rattle.cat_model.specs.Lines.{spaced, IsReadable, reply_text, refusal_words, line_text, unreadable_text}
 use Rattle.cat_model.specs.Heard.{Json, Heard, Hears}
@@ -71,13 +71,12 @@ outcome_text (Outcome.replied e) = reply_text e.line.session e.reply
 -- Which files a FILES has to tell is said where files are.
 abbrev pub NamesFiles : Reply → Type 0
 NamesFiles (Ok (Answer.names texts)) = (names : List Name) × AllByRecursion IsFileName names × (texts ≡ map text_of_name names)
-NamesFiles (Ok (Answer.found (Found.source stored))) = HasNoLineFeed stored
+NamesFiles (Ok (Answer.found (Found.source stored))) = IfSome stored IsOneLine
 NamesFiles _ = Unit {0}
 
 -- and so it is with what was told to a line
 abbrev pub TellsFiles : Outcome → Type 0
-TellsFiles Outcome.unreadable = Unit {0}
-TellsFiles (Outcome.replied e) = NamesFiles e.reply
+TellsFiles told = IfSome (exchange told) (λ e. NamesFiles e.reply)
 
 -- each line was heard so, in order
 abbrev pub HeardAll : Json → Schema → List Text → List Outcome → Type 0

@@ -1,5 +1,5 @@
 -- What serving lines over a directory means: what was read and written, and what is left of the directory.
-use Rattle.std.specs.Prelude.{◌≡◌, ◌⊎◌, ℕ, false, length, List, [], ◌∷◌, ◌++◌, codes, filter_map, Option, Some, Result, Ok, Err}
+use Rattle.std.specs.Prelude.{◌≡◌, ◌⊎◌, ℕ, false, length, List, [], ◌∷◌, ◌++◌, codes, filter_map, Option, Some, IfSome, Result, Ok, Err}
 use Rattle.std.specs.List.{flat_map, AllByRecursion}
 use Rattle.std.specs.Fmt.{decimal}
 use Rattle.std.specs.Io.KnownBytes.{Consumes}
@@ -66,8 +66,7 @@ WantRightly from past (e ∷ rest) =
 
 -- Where the line was told that the device failed, it can fail, or the line is a MERGE; the line may have been unreadable.
 abbrev pub FailsRightly : Type 0 → Outcome → Type 0
-FailsRightly fails Outcome.unreadable = Unit {0}
-FailsRightly fails (Outcome.replied e) = e.reply ≡ Err Device → fails ⊎ (e.line.command ≡ Command.chore Chore.merge)
+FailsRightly fails told = IfSome (exchange told) (λ e. e.reply ≡ Err Device → fails ⊎ (e.line.command ≡ Command.chore Chore.merge))
 
 -- ---- the whole
 

@@ -1,9 +1,11 @@
 -- How a service stands between two lines: what a STAT would tell, how far a merge is, which numbers come next, how many failures its
 -- directory has counted, and which generations were tried. By it each refusal that stands in place of an OK has its cause, and what
 -- maintenance tells is so.
-use Rattle.std.specs.Prelude.{◌≡◌, ◌⊎◌, ℕ, ◌+◌, ◌-◌, ◌<◌, ◌≤◌, min, true, List, [], ◌∷◌, ◌++◌, length, map, sum, option_to_list, Option, Some, None, Ok, Err}
+use Rattle.std.specs.Prelude.{◌≡◌, ◌⊎◌, ℕ, ◌+◌, ◌-◌, ◌<◌, ◌≤◌, min, true, List, [], ◌∷◌, ◌++◌, length, map, sum, option_to_list, Option, Some, None, IfSome, Result, Ok, Err}
+use Rattle.cat_base.specs.declared.refusal.Refusal.{Refusal}
 use Rattle.cat_base.specs.declared.refusal.Refusal.TheVariants.{Damaged, Device, Spent}
-use Rattle.cat_model.specs.Answer.{HasNoLineFeed, Read, stored}
+use Rattle.cat_model.specs.Text.{IsOneLine, Text}
+use Rattle.cat_model.specs.Answer.{Read, stored}
 use Rattle.cat_model.specs.Limits.{buffer_limit, last_number, row_limit, segment_limit, step_limit}
 use Rattle.cat_model.specs.Run.{Answer, Chore, Command, Exchange, News, Reply, Run, Stat, accepted_by, now, view_tokens, writes}
 use Rattle.cat_model.specs.Promised.{refuses_commit}
@@ -58,7 +60,7 @@ IsSpentFor factor least s c = Unit {0}
 -- A file is damaged. On directories that always tell of their files none is, so that a GET finds what was stored: but text that has a line
 -- feed isn't told. A MERGE has rows left to pass. The first argument says whether directories always tell of their files.
 abbrev pub IsDamagedFor : Type 0 → Opened → Run → Standing → Command → Type 0
-IsDamagedFor always from past s (Command.read t (Read.get (Ok id))) = always → HasNoLineFeed (stored (table from.start (writes past) t) id) → ⊥
+IsDamagedFor always from past s (Command.read t (Read.get (Ok id))) = always → IfSome (stored (table from.start (writes past) t) id) IsOneLine → ⊥
 IsDamagedFor always from past s (Command.chore Chore.merge) = (m : Progress) × (s.merging ≡ Some m) × (m.passed < m.rows)
 IsDamagedFor always from past s c = Unit {0}
 
@@ -92,24 +94,15 @@ IsToldOf factor least s c reply = Unit {0}
 
 -- ---- from one line to the next
 
--- how many writes the exchange adds to those accepted: one or none
-abbrev pub writes_by : Command → Reply → ℕ
-writes_by c reply = length (option_to_list (accepted_by c reply))
-
--- a COMMIT that was answered OK took the generation
-abbrev pub IsTakenBy : Command → Reply → (next new : ℕ) → Type 0
-IsTakenBy (Command.commit text) (Ok a) next new = new ≡ next + 1
-IsTakenBy c reply next new = Unit {0}
-
 -- What a line makes of it, whatever it is told: it takes one number of each kind at most, and makes one segment at most; nothing waits more
 -- than before but an item that was accepted; a merge comes only where that was told; no failure is forgotten; and a COMMIT that was refused,
 -- but not for its text, takes the generation that it tried.
 pub record MovesOn (s : Standing) (c : Command) (reply : Reply) (new : Standing) : Type 0 where
   pub segment : (s.next_segment ≤ new.next_segment) × (new.next_segment ≤ s.next_segment + 1)
   pub generation : (s.next_generation ≤ new.next_generation) × (new.next_generation ≤ s.next_generation + 1)
-  pub taken : IsTakenBy c reply s.next_generation new.next_generation
+  pub taken : (text : Result Text Refusal) (a : Answer) → c ≡ Command.commit text → reply ≡ Ok a → new.next_generation ≡ s.next_generation + 1
   pub segments : length new.stat.segments ≤ length s.stat.segments + 1
-  pub waits : new.stat.buffered ≤ s.stat.buffered + writes_by c reply
+  pub waits : new.stat.buffered ≤ s.stat.buffered + length (option_to_list (accepted_by c reply))
   pub merges : s.merging ≡ None → (new.merging ≡ None) ⊎ ((k : ℕ) × (reply ≡ Ok (Answer.news (News.begun_merge k))))
   pub failures : s.failures ≤ new.failures
   pub tried : (new.tried ≡ s.tried) ⊎ ((refuses_commit c reply ≡ true)

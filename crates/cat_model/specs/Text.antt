@@ -1,5 +1,5 @@
 -- Texts, as the bytes of their UTF-8. They compare by bytes, as Lucene's terms do (BytesRef.compareTo).
-use Rattle.std.specs.Prelude.{◌≢◌, ℕ, Bool, List, length, take, bytes_eq}
+use Rattle.std.specs.Prelude.{◌≢◌, ℕ, Bool, List, [], ◌∷◌, length, take, bytes_eq}
 use Rattle.std.specs.declared.cmp.Ordering.{Ordering}
 use Rattle.std.specs.Ordering.{nat_cmp, is_le}
 use Rattle.std.specs.Cmp.Lexicographic.{slice_cmp}
@@ -28,3 +28,8 @@ has_prefix prefix text = bytes_eq prefix (take (length prefix) text)
 -- a text without a line feed
 abbrev pub IsOneLine : Text → Type 0
 IsOneLine text = AllByRecursion (λ b. b ≢ 10) text
+
+-- the text, and nothing where it is empty
+abbrev pub one_or_none : Text → List Text
+one_or_none [] = []
+one_or_none (b ∷ text) = (b ∷ text) ∷ []

@@ -1,5 +1,5 @@
 -- What a directory tells of its files, and what a crash may leave of them.
-use Rattle.std.specs.Prelude.{◌≡◌, ◌≢◌, ◌⊎◌, ℕ, ◌+◌, ◌-◌, ◌^◌, ◌<◌, ◌≤◌, List, Option, Some, None}
+use Rattle.std.specs.Prelude.{◌≡◌, ◌≢◌, ◌⊎◌, ℕ, ◌+◌, ◌-◌, ◌^◌, ◌<◌, ◌≤◌, List, Option, Some, None, IfSome}
 use Rattle.cat_model.specs.Text.{Text}
 use Rattle.cat_model.specs.Files.{Name}
 
@@ -15,8 +15,7 @@ Told = Option FileContent
 
 -- what is told of a file is so; where nothing is told, it may be anything
 abbrev pub IsTold : Told → Option Text → Type 0
-IsTold None content = Unit {0}
-IsTold (Some told) content = told ≡ content
+IsTold told content = IfSome told (λ so. so ≡ content)
 
 -- What a crash may leave of a file is a set of contents. This one has nothing that the other hasn't.
 abbrev pub NoMore : (FileContent → Type 0) → (FileContent → Type 0) → Type 0

@@ -4,11 +4,11 @@ use Rattle.std.specs.Prelude.{◌≡◌, ◌≢◌, ℕ, ◌≤◌, ◌<◌, ◌
 use Rattle.std.specs.List.{flat_map}
 use Rattle.cat_model.specs.Text.{Text}
 use Rattle.cat_model.specs.Item.{Schema, FieldContent, Item, Record, AreFields, IsSchema, is_id, content_of, words_in}
-use Rattle.cat_model.specs.Forms.{IsFormed, IsSourceLength}
+use Rattle.cat_model.specs.Forms.{IsFormed}
 use Rattle.cat_model.specs.Query.{Query, matches}
 use Rattle.cat_model.specs.Files.{Name}
 use Rattle.cat_model.specs.Ordinals.{dictionary_of}
-use Rattle.cat_model.specs.Limits.{row_limit}
+use Rattle.cat_model.specs.Limits.{row_limit, source_limit}
 
 -- a row: a record, with the length of its item's source in bytes in place of the source
 pub record Row : Type 0 where
@@ -48,19 +48,15 @@ pub record AreRows (schema : Schema) (rows : List Row) : Type 0 where
 pub record IsFormedRow (row : Row) : Type 0 where
   pub number : row.number < 2 ^ 64
   pub id : is_id row.id ≡ true
-  pub source : IsSourceLength row.length
+  pub source : (1 ≤ row.length) × (row.length ≤ source_limit)
   pub fields : All (λ p. IsFormed p.content) row.fields
-
--- the words that rows have in the field of this name
-abbrev pub words_of_field : List Row → Text → List Text
-words_of_field rows name = dictionary_of (map (λ r. words_in (content_of name (item_in r))) rows)
 
 -- what always holds of a segment; no field has 2^32 different words
 pub record IsSegment (s : Segment) : Type 0 where
   pub schema : IsSchema s.schema
   pub rows : AreRows s.schema s.rows
   pub formed : All IsFormedRow s.rows
-  pub words : (name : Text) → length (words_of_field s.rows name) < 2 ^ 32
+  pub words : (name : Text) → length (dictionary_of (map (λ r. words_in (content_of name (item_in r))) s.rows)) < 2 ^ 32
 
 -- ---- views
 

@@ -8,15 +8,11 @@ pub record IsLevel (factor least rows k : ℕ) : Type 0 where
   pub fits : rows ≤ least * factor ^ k
   pub lowest : (j : ℕ) → j < k → least * factor ^ j < rows
 
--- the sizes from this index on, as many as a merge takes
-abbrev pub sizes_at : ℕ → List ℕ → ℕ → List ℕ
-sizes_at factor sizes index = take factor (drop index sizes)
-
 -- `factor` adjacent segments of this level from this index on, which have at most `row_limit` rows together
 pub record IsMergeable (factor least : ℕ) (sizes : List ℕ) (level index : ℕ) : Type 0 where
   pub within : index + factor ≤ length sizes
-  pub levels : All (λ rows. IsLevel factor least rows level) (sizes_at factor sizes index)
-  pub few : sum (sizes_at factor sizes index) ≤ row_limit
+  pub levels : All (λ rows. IsLevel factor least rows level) (take factor (drop index sizes))
+  pub few : sum (take factor (drop index sizes)) ≤ row_limit
 
 -- the level is lower, or it is the same and the index is no greater
 abbrev pub IsFirst : (level index other_level other_index : ℕ) → Type 0

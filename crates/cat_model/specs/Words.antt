@@ -15,19 +15,19 @@ is_word_byte b = is_ascii_alphanumeric b || nat_le 128 b
 abbrev pub lowered : Text → Text
 lowered t = map to_ascii_lowercase t
 
--- the text has a byte
-abbrev pub is_some_text : Text → Bool
-is_some_text s = nat_lt 0 (length s)
-
 -- the longest runs of word bytes, in order
 abbrev pub runs : Text → List Text
-runs text = filter is_some_text (slice_split (λ b. not (is_word_byte b)) text)
+runs text = filter (λ s. nat_lt 0 (length s)) (slice_split (λ b. not (is_word_byte b)) text)
 
 -- each word once, in byte order
 abbrev pub words : Text → List Text
 words text = sorted_set (map lowered (runs text))
 
 -- ---- the longest runs, without saying how they are found
+
+-- the text has a byte
+abbrev pub is_some_text : Text → Bool
+is_some_text s = nat_lt 0 (length s)
 
 -- nothing stands before, or something whose last byte is no word byte
 abbrev pub IsCutBefore : Text → Type 0

@@ -7,9 +7,9 @@ use Rattle.std.proofs.lemmas.List.FromFn.{fill_by_all}
 use Rattle.cat_model.specs.Text.{Text}
 use Rattle.cat_model.specs.Item.{Content, Field, Kind, Schema, FieldContent, IsContent, AreFields}
 use Rattle.cat_model.specs.Forms.{IsFormed}
-use Rattle.cat_model.specs.Layout.{Laid, Layout, Head, column_of, head_of, layout_of, IsHead, IsLaid, AreLaid, IsLayout}
+use Rattle.cat_model.specs.Layout.{Laid, Layout, Head, column_of, head_of, layout_of, IsHead, IsLaid, AreLaid, IsLayout, words_of_field}
 use Rattle.cat_model.specs.Ordinals.{dictionary_of}
-use Rattle.cat_model.specs.View.{Row, Segment, AreRows, IsFormedRow, IsSegment, words_of_field}
+use Rattle.cat_model.specs.View.{Row, Segment, AreRows, IsFormedRow, IsSegment}
 use Rattle.cat_segment.proofs.Columns.{length-rows_of, map-rows_of}
 use Rattle.cat_segment.proofs.Layouts.{column_placed, contents_are}
 use Rattle.cat_segment.proofs.Made.{row_here}

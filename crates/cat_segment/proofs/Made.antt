@@ -11,7 +11,8 @@ use Rattle.cat_model.specs.Text.{Text}
 use Rattle.cat_model.specs.Item.{Content, Schema, FieldContent, AreFields, IsSchema, is_id, words_in}
 use Rattle.cat_model.specs.Forms.{IsSourceLength}
 use Rattle.cat_model.specs.Ordinals.{dictionary_of}
-use Rattle.cat_model.specs.View.{Row, row_of, AreRows, IsFormedRow, words_of_field}
+use Rattle.cat_model.specs.View.{Row, row_of, AreRows, IsFormedRow}
+use Rattle.cat_model.specs.Layout.{words_of_field}
 use Rattle.cat_segment.proofs.Filled.{map_where, fields_formed}
 use Rattle.cat_segment.proofs.Placed.{no_content, length-fields}
 use Rattle.cat_segment.proofs.Worded.{words_few}

@@ -8,9 +8,9 @@ use Rattle.std.proofs.lemmas.Slice.Eq.{bytes_eq-Decides}
 use Rattle.cat_base.specs.Texts.{IsTextSet}
 use Rattle.cat_model.specs.Text.{Text, same_text}
 use Rattle.cat_model.specs.Item.{Content, Field, Kind, Schema, FieldContent, IsContent, AreFields, content_of, words_in}
-use Rattle.cat_model.specs.Layout.{WordPostings, IsLaid}
+use Rattle.cat_model.specs.Layout.{WordPostings, IsLaid, words_of_field}
 use Rattle.cat_model.specs.Ordinals.{dictionary_of, postings_of}
-use Rattle.cat_model.specs.View.{Row, item_in, words_of_field}
+use Rattle.cat_model.specs.View.{Row, item_in}
 use Rattle.cat_segment.proofs.Formed.{seen, length-dictionary}
 use Rattle.cat_segment.proofs.Placed.{contents_named}
 use Rattle.cat_segment.specs.Laid.{contents_under, laid_out}

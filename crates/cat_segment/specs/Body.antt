@@ -3,7 +3,8 @@ use Rattle.std.specs.Prelude.{◌≡◌, ◌<◌, ◌^◌, ℕ, List, [], ◌∷
 use Rattle.std.specs.List.{range_with_len}
 use Rattle.cat_model.specs.Text.{Text}
 use Rattle.cat_model.specs.Item.{Content, Schema, FieldContent, IsSchema}
-use Rattle.cat_model.specs.View.{Row, AreRows, IsFormedRow, words_of_field}
+use Rattle.cat_model.specs.View.{Row, AreRows, IsFormedRow}
+use Rattle.cat_model.specs.Layout.{words_of_field}
 use Rattle.cat_segment.specs.Contents.{contents_of}
 use Rattle.cat_segment.specs.declared.column.Column.{Column}
 use Rattle.cat_segment.specs.declared.segment.Segment.TheInside.{Inside}

@@ -2,13 +2,14 @@
 use Rattle.std.proofs.Common.{◌≡◌, ℕ, ◌≤◌, List, [], ◌∷◌, length, map, Bool, true, false, cond, refl, sym, ◌∙◌, ap, ap₂, subst, inl, inr, arith}
 use Rattle.std.specs.Prelude.{◌==◌, Option, None, Some}
 use Rattle.std.specs.List.{find, flat_map, AllByRecursion}
+use Rattle.std.specs.Option.{option_map_or}
 use Rattle.std.proofs.lemmas.Bool.Decides.{eqb_tells}
 use Rattle.cat_model.specs.CommitFile.{CommitFile, SpellsCommit, commit_needs}
 use Rattle.cat_model.specs.Files.{Name}
 use Rattle.cat_model.specs.Item.{Schema}
 use Rattle.cat_model.specs.Layout.{SpellsSegment}
 use Rattle.cat_model.specs.LiveFile.{LiveRows, SpellsLive}
-use Rattle.cat_model.specs.Run.{Run, commits, is_kept, commit_under, committed_at, found_text, text_under, writes}
+use Rattle.cat_model.specs.Run.{Run, commits, is_kept, commit_under, committed_at, text_under, writes}
 use Rattle.cat_model.specs.State.{Commit, IsCommitOf, told_by}
 use Rattle.cat_model.specs.Table.{CommitText, Opened, table}
 use Rattle.cat_model.specs.Text.{Text}
@@ -268,7 +269,7 @@ module _ (segments : SegmentsLaw) (lives : LiveLaw) (one_commit : CommitsLaw) (t
           let number : c.generation ≡ commit.generation = ap (λ (x : CommitFile). x.generation) one.1 in
           let text : c.text ≡ commit.text = ap (λ (x : CommitFile). x.text) one.1 in
           let found : text_under (commits from run) commit.generation ≡ commit.text =
-          subst (λ n. text_under (commits from run) n ≡ commit.text) number (ap found_text one.2.text ∙ text) in
+          subst (λ n. text_under (commits from run) n ≡ commit.text) number (ap (λ o. option_map_or (λ (c : CommitText). c.text) o []) one.2.text ∙ text) in
           λ i. Some (record { generation = commit.generation; text = sym found i })
 
 pub copies_open_alike : SegmentsLaw → LiveLaw → CommitsLaw → CopiesOpenAlike

@@ -1,13 +1,13 @@
 -- What a call of the ledger's model makes of what a standing tells of it.
 use Rattle.std.proofs.Common.{◌≡◌, ℕ, ◌+◌, ◌≤◌, List, [], ◌∷◌, ◌++◌, length, take, drop, Bool, true, false, cond, ltb, refl, sym, ◌∙◌, ap, subst, arith, inl, inr}
-use Rattle.std.specs.Prelude.{◌⊎◌, ◌==◌, not, filter, None, Some, Ok, Err}
+use Rattle.std.specs.Prelude.{◌⊎◌, ◌==◌, not, filter, option_to_list, None, Some, Ok, Err}
 use Rattle.std.proofs.lemmas.List.{length-append, length-drop, length-map, length-take}
 use Rattle.std.proofs.lemmas.List.Filters.{length-filter_both}
 use Rattle.cat_base.specs.declared.refusal.Refusal.{Refusal}
 use Rattle.cat_base.specs.declared.refusal.Refusal.TheVariants.{Memory}
 use Rattle.cat_model.specs.Item.{Record, Schema}
 use Rattle.cat_model.specs.Limits.{buffer_limit, last_number}
-use Rattle.cat_model.specs.Run.{Answer, Chore, Command, Line, News, Reply}
+use Rattle.cat_model.specs.Run.{Answer, Chore, Command, Line, News, Reply, accepted_by}
 use Rattle.cat_model.specs.State.{Halts, has_hold, refuses_refresh, snapshots_in}
 use Rattle.cat_model.specs.Table.{without}
 use Rattle.cat_model.specs.Write.{Write, removes}
@@ -16,7 +16,6 @@ use Rattle.cat_ledger_laws.specs.model.Ledger.{Ledger, state_of}
 use Rattle.cat_ledger_laws.specs.model.Plans.{MergePolicy}
 use Rattle.cat_ledger_laws.specs.model.Portions.{Portion, all_live, live_after, merged, settled}
 use Rattle.cat_ledger_laws.specs.model.Replies.{Calls, CarriesOut, FindsNone, IsLeft, Maintains, SnapsBy}
-use Rattle.cat_model.specs.Standings.{IsTakenBy, writes_by}
 
 -- ---- lists
 
@@ -32,6 +31,15 @@ apart : {X : Type 0} (n m : ℕ) (xs : List X) → length (take n xs) + length (
 apart n m xs = let a = length-take n xs in let b = length-drop (n + m) xs in omega (arith, a, b)
 
 -- ---- what is made of a ledger
+
+-- how many writes the exchange adds to those accepted: one or none
+abbrev pub writes_by : Command → Reply → ℕ
+writes_by c reply = length (option_to_list (accepted_by c reply))
+
+-- a COMMIT that was answered OK took the generation
+abbrev pub IsTakenBy : Command → Reply → (next new : ℕ) → Type 0
+IsTakenBy (Command.commit text) (Ok a) next new = new ≡ next + 1
+IsTakenBy c reply next new = Unit {0}
 
 -- a merge was begun, as the reply tells
 abbrev pub IsBegunBy : Reply → Type 0

@@ -6,8 +6,8 @@ use Rattle.std.proofs.lemmas.List.Elements.{recursion_from_All}
 use Rattle.cat_model.specs.CommitFile.{CommitFile, SpellsCommit, commit_needs, listed_names}
 use Rattle.cat_model.specs.Files.{Name}
 use Rattle.cat_model.specs.Item.{Record}
-use Rattle.cat_model.specs.Run.{Run, commits, is_kept, is_newest, newest_commit, snapshots, text_under, writes}
-use Rattle.cat_model.specs.State.{Commit}
+use Rattle.cat_model.specs.Run.{Run, commits, is_kept, newest_commit, snapshots, text_under, writes}
+use Rattle.cat_model.specs.State.{Commit, is_newest}
 use Rattle.cat_model.specs.Table.{Opened, table}
 use Rattle.cat_model.specs.Text.{Text}
 use Rattle.cat_model.proofs.CommitFiles.{commits_are_told_by_their_bytes}

@@ -33,11 +33,11 @@ use Rattle.cat_ledger_laws.specs.model.Portions.{Merging, leaf_of}
 use Rattle.cat_ledger_laws.specs.shape.Shapes.{MergingShape, Shape, merging_shape, recorded_view, shape_of as shape_of_ledger}
 use Rattle.cat_ledger_laws.specs.shape.Ties.{ToldFiles}
 use Rattle.cat_service.proofs.Gets.{damaged_get}
-use Rattle.cat_service.proofs.Moved.{Moved, calls_move}
+use Rattle.cat_service.proofs.Moved.{IsTakenBy, Moved, calls_move, writes_by}
 use Rattle.cat_service.specs.Causes.{IsCountedTo, IsDamagedTo, IsSpentTo, TakesNumbers, TellsSo}
 use Rattle.cat_service.specs.Lines.{IsCommandOf}
 use Rattle.cat_service.specs.Reasons.{IsCausedBy, progress_of, standing_of_service}
-use Rattle.cat_model.specs.Standings.{ForceTells, HasNoRoom, HasReason, IsDamagedFor, IsSpentFor, IsTakenBy, IsToForce, IsToldOf, IsToMerge, MergeTells, MovesOn, Progress, Standing, segment_rows, writes_by}
+use Rattle.cat_model.specs.Standings.{ForceTells, HasNoRoom, HasReason, IsDamagedFor, IsSpentFor, IsToForce, IsToldOf, IsToMerge, MergeTells, MovesOn, Progress, Standing, segment_rows}
 use Rattle.cat_service.specs.Worlds.{Service, device_of, policy_of, shape_of_service}
 
 -- ---- replies that are alike
@@ -394,6 +394,12 @@ sources_write (Command.files_of_commit n) f g = refl
 sources_write (Command.text_of_commit n) f g = refl
 sources_write (Command.chore what) f g = refl
 
+taken_by : (c : Command) (r : Reply) (text : Result Text Refusal) (a : Answer) (next new : ℕ) → c ≡ Command.commit text → r ≡ Ok a → IsTakenBy c r next new
+    → new ≡ next + 1
+taken_by c r text a next new commits ok h =
+    let k : IsTakenBy (Command.commit text) (Ok a) next new =
+    subst (λ x. IsTakenBy (Command.commit text) x next new) ok (subst (λ d. IsTakenBy d r next new) commits h) in k
+
 sources_take : (c : Command) (f g : Found) (next new : ℕ) → IsTakenBy c (Ok (Answer.found f)) next new → IsTakenBy c (Ok (Answer.found g)) next new
 sources_take (Command.commit text) f g next new h = h
 sources_take Command.formless f g next new h = tt
@@ -453,9 +459,10 @@ module _ {D : Type 0} (bytes : D → ToldFiles) (can_fail : D → Type 0) (fault
   moves_on old new c r l l' is is' numbers rises m tries = record {
     segment = numbers.segment;
     generation = numbers.generation;
-    taken =
-        subst (λ n. IsTakenBy c r n (shape_of_service new).next_generation) (ap (λ (x : Shape). x.next_generation) is)
-        (subst (λ n. IsTakenBy c r l.next_generation n) (ap (λ (x : Shape). x.next_generation) is') m.taken);
+    taken = λ text a commits ok.
+        taken_by c r text a (shape_of_service old).next_generation (shape_of_service new).next_generation commits ok
+        (subst (λ n. IsTakenBy c r n (shape_of_service new).next_generation) (ap (λ (x : Shape). x.next_generation) is)
+        (subst (λ n. IsTakenBy c r l.next_generation n) (ap (λ (x : Shape). x.next_generation) is') m.taken));
     segments =
         (let a = ap (λ (x : Shape). length x.leaves) is in
         let b = ap (λ (x : Shape). length x.leaves) is' in

@@ -7,7 +7,8 @@ use Rattle.cat_model.specs.CommitFile.{CommitFile, SpellsCommit, commit_needs}
 use Rattle.cat_model.specs.Files.{Name}
 use Rattle.cat_model.specs.Promised.{HoldsGeneration, NewestIsSettled}
 use Rattle.cat_model.specs.Restored.{HasCommit}
-use Rattle.cat_model.specs.Run.{Run, is_kept, is_newest, newest_commit, snapshots}
+use Rattle.cat_model.specs.Run.{Run, is_kept, newest_commit, snapshots}
+use Rattle.cat_model.specs.State.{is_newest}
 use Rattle.cat_model.specs.Table.{Opened}
 use Rattle.cat_model.specs.Text.{Text}
 use Rattle.cat_model.specs.Told.{MayHave}

@@ -1,18 +1,18 @@
 -- What is wrong with the text of an item is no failure of a device, and no limit that is reached.
 use Rattle.std.proofs.Common.{◌≡◌, Bool, true, false, length, subst}
-use Rattle.std.specs.Prelude.{◌≢◌, ◌==◌, Option, Some, None, is_some, Result, Ok, Err, bytes_eq, nat_lt, if◌then◌else◌}
+use Rattle.std.specs.Prelude.{◌≢◌, ◌==◌, Option, Some, None, is_some, Result, Ok, Err, bytes_eq, codes, nat_lt, if◌then◌else◌}
 use Rattle.std.specs.List.{list_all}
 use Rattle.std.specs.Option.{option_and_then, option_map_or, option_or}
 use Rattle.serde_json.specs.Data.{Data, Items, item, no_items, Members, member, no_members}
 use Rattle.serde_json.specs.Events.{items_len}
 use Rattle.serde_json.specs.Find.{as_array, as_i64, as_null, as_number, as_object, as_str, get_member}
 use Rattle.cat_base.specs.declared.refusal.Refusal.{Refusal}
-use Rattle.cat_base.specs.declared.refusal.Refusal.TheVariants.{Device, Id, Kind, Large, Spent}
+use Rattle.cat_base.specs.declared.refusal.Refusal.TheVariants.{Device, Id, Json, Kind, Large, Member, Spent}
 use Rattle.cat_model.specs.Forms.{is_plain_byte}
 use Rattle.cat_model.specs.Item as model
 use Rattle.cat_model.specs.Limits.{keyword_limit, label_limit, source_limit}
 use Rattle.cat_model.specs.Text.{Text}
-use Rattle.cat_items.specs.Reading.{checked, field_fault, first_fault, id_name, item_of, json_of, keyword_fault, label_fault, labels_fault, list_fault, member_fault, of_members, of_value, some_label_fault, value_fault, with_id}
+use Rattle.cat_items.specs.Reading.{contents_in, field_fault, first_fault, item_of, json_of, keyword_fault, label_fault, labels_fault, list_fault, member_fault, of_members, of_value, some_label_fault, value_fault, with_id}
 
 -- the refusal is neither
 abbrev pub IsOfText : Refusal → Type 0
@@ -36,10 +36,9 @@ first : (x y : Option Refusal) → IsFault x → IsFault y → IsFault (option_o
 first None y one other = other
 first (Some e) y one other = one
 
-of_some : {A : Type 0} (f : A → Option Refusal) (o : Option A) (d : Option Refusal) → ((x : A) → IsFault (f x)) → IsFault d
-    → IsFault (option_map_or f o d)
-of_some f None d all none = none
-of_some f (Some x) d all none = all x
+of_some : {A B : Type 0} (P : B → Type 0) (f : A → B) (o : Option A) (d : B) → ((x : A) → P (f x)) → P d → P (option_map_or f o d)
+of_some P f None d all none = none
+of_some P f (Some x) d all none = all x
 
 kind : IsFault (Some Kind)
 kind = (λ h. cc h, λ h. cc h)
@@ -56,7 +55,7 @@ label : (s : Text) → IsFault (label_fault s)
 label s = either IsFault (length s == 0) (Some Kind) (keyword_fault s) kind (keyword s)
 
 some_label : (d : Data) → IsFault (some_label_fault d)
-some_label d = of_some label_fault (as_str d) (Some Kind) label kind
+some_label d = of_some IsFault label_fault (as_str d) (Some Kind) label kind
 
 labels : (ds : Items) → IsFault (labels_fault ds)
 labels no_items = tt
@@ -67,41 +66,41 @@ list ds = either IsFault (nat_lt label_limit (items_len ds)) (Some Large) (label
 
 value : (k : model.Kind) (d : Data) → IsFault (value_fault k d)
 value model.Kind.text d = either IsFault (is_some (as_str d)) None (Some Kind) tt kind
-value model.Kind.keyword d = of_some keyword_fault (as_str d) (Some Kind) keyword kind
+value model.Kind.keyword d = of_some IsFault keyword_fault (as_str d) (Some Kind) keyword kind
 value model.Kind.number d = either IsFault (is_some (option_and_then as_i64 (as_number d))) None (Some Kind) tt kind
-value model.Kind.facet d = of_some list_fault (as_array d) (Some Kind) list kind
+value model.Kind.facet d = of_some IsFault list_fault (as_array d) (Some Kind) list kind
 
-field : (k : Option model.Kind) (d : Data) → IsFault (field_fault k d)
-field None d = (λ h. cc h, λ h. cc h)
-field (Some k) d = either IsFault (is_some (as_null d)) None (value_fault k d) tt (value k d)
+field : (k : model.Kind) (d : Data) → IsFault (field_fault k d)
+field k d = either IsFault (is_some (as_null d)) None (value_fault k d) tt (value k d)
 
 one_member : (fs : model.Schema) (name : Text) (d : Data) → IsFault (member_fault fs name d)
 one_member fs name d =
-    either IsFault (bytes_eq name id_name) None (field_fault (model.kind_of fs name) d) tt (field (model.kind_of fs name) d)
+    either IsFault (bytes_eq name (codes "id")) None (option_map_or (λ k. field_fault k d) (model.kind_of fs name) (Some Member)) tt
+    (of_some IsFault (λ k. field_fault k d) (model.kind_of fs name) (Some Member) (λ k. field k d) (λ h. cc h, λ h. cc h))
 
 members : (fs : model.Schema) (ms : Members) → IsFault (first_fault fs ms)
 members fs no_members = tt
 members fs (member name d ms) = first (member_fault fs name d) (first_fault fs ms) (one_member fs name d) (members fs ms)
 
-judged : (fs : model.Schema) (bytes : Text) (ms : Members) (id : Text) (o : Option Refusal) → IsFault o → IsRead (checked fs bytes ms id o)
-judged fs bytes ms id None h = tt
-judged fs bytes ms id (Some e) h = h
+judged : (i : model.Item) (o : Option Refusal) → IsFault o → IsRead (option_map_or Err o (Ok i))
+judged i None h = tt
+judged i (Some e) h = h
 
-named : (fs : model.Schema) (bytes : Text) (ms : Members) (o : Option Text) → IsRead (with_id fs bytes ms o)
-named fs bytes ms None = (λ h. cc h, λ h. cc h)
-named fs bytes ms (Some id) =
-    either IsRead (model.is_id id) (checked fs bytes ms id (first_fault fs ms)) (Err Id)
-    (judged fs bytes ms id (first_fault fs ms) (members fs ms)) (λ h. cc h, λ h. cc h)
+named : (fs : model.Schema) (bytes : Text) (ms : Members) (id : Text) → IsRead (with_id fs bytes ms id)
+named fs bytes ms id =
+    let item : model.Item = record { id = id; fields = contents_in fs ms; source = bytes } in
+    either IsRead (model.is_id id) (option_map_or Err (first_fault fs ms) (Ok item)) (Err Id)
+    (judged item (first_fault fs ms) (members fs ms)) (λ h. cc h, λ h. cc h)
 
-object : (fs : model.Schema) (bytes : Text) (o : Option Members) → IsRead (of_members fs bytes o)
-object fs bytes None = (λ h. cc h, λ h. cc h)
-object fs bytes (Some ms) = named fs bytes ms (option_and_then as_str (get_member id_name ms))
+object : (fs : model.Schema) (bytes : Text) (ms : Members) → IsRead (of_members fs bytes ms)
+object fs bytes ms =
+    of_some IsRead (with_id fs bytes ms) (option_and_then as_str (get_member (codes "id") ms)) (Err Id) (named fs bytes ms) (λ h. cc h, λ h. cc h)
 
-whole : (fs : model.Schema) (bytes : Text) (o : Option Data) → IsRead (of_value fs bytes o)
-whole fs bytes None = (λ h. cc h, λ h. cc h)
-whole fs bytes (Some d) = object fs bytes (as_object d)
+whole : (fs : model.Schema) (bytes : Text) (d : Data) → IsRead (of_value fs bytes d)
+whole fs bytes d = of_some IsRead (of_members fs bytes) (as_object d) (Err Kind) (object fs bytes) kind
 
 -- so is what is told of it
 pub is_of_text : (fs : model.Schema) (bytes : Text) (e : Refusal) → item_of fs bytes ≡ Err e → IsOfText e
 is_of_text fs bytes e is =
-    subst IsRead is (either IsRead (nat_lt source_limit (length bytes)) (Err Large) (of_value fs bytes (json_of bytes)) (λ h. cc h, λ h. cc h) (whole fs bytes (json_of bytes)))
+    let read = of_some IsRead (of_value fs bytes) (json_of bytes) (Err Json) (whole fs bytes) (λ h. cc h, λ h. cc h) in
+    subst IsRead is (either IsRead (nat_lt source_limit (length bytes)) (Err Large) (option_map_or (of_value fs bytes) (json_of bytes) (Err Json)) large read)

@@ -2,6 +2,7 @@
 use Rattle.std.proofs.Common.{◌≡◌, ℕ, suc, ◌+◌, List, [], ◌∷◌, ◌++◌, length, map, sum, Bool, true, false, ◌&&◌, cond, Some, None, refl, sym, ◌∙◌, ap, ap₂, subst, arith, inl, inr}
 use Rattle.std.specs.Prelude.{◌==◌, ◌≤◌, All, Option, replicate}
 use Rattle.std.specs.List.{flat_map, list_any, AllByRecursion}
+use Rattle.std.specs.Option.{option_map_or}
 use Rattle.std.proofs.lemmas.Bool.Decides.{eqb_tells}
 use Rattle.std.proofs.lemmas.List.{length-append}
 use Rattle.std.proofs.lemmas.List.Elements.{All-from_recursion}
@@ -11,9 +12,9 @@ use Rattle.cat_model.specs.Files.{Name}
 use Rattle.cat_model.specs.Item.{Record, Schema}
 use Rattle.cat_model.specs.LiveFile.{SpellsLive}
 use Rattle.cat_model.specs.Merged.{rows_of_all}
-use Rattle.cat_model.specs.Run.{Run, writes, has, holds, view_tokens, commits, commit_under, committed_at, found_text, is_kept, text_under}
+use Rattle.cat_model.specs.Run.{Run, writes, has, holds, view_tokens, commits, commit_under, committed_at, is_kept, text_under}
 use Rattle.cat_model.specs.State.{Commit, Hold, RecordedTable, IsCommitOf, StandsFor, has_hold, held_in, table_recorded, told_by}
-use Rattle.cat_model.specs.Table.{Opened, table}
+use Rattle.cat_model.specs.Table.{Opened, CommitText, table}
 use Rattle.cat_model.specs.Text.{Text}
 use Rattle.cat_model.specs.View.{Leaf, Row, row_of, records_in, selected, sourced}
 use Rattle.cat_model.proofs.Lists.{All-weaken, All-each}
@@ -246,7 +247,7 @@ module _ (told : ToldFiles) (from : Opened) (run : Run) (l : Ledger) (files : Fi
             (subst (HoldsCommit (λ q. told (file_of q)) from.start.schema x.0.generation (commit_file l.schema x.0)) x.1.of_run.table
             (subst (λ schema. HoldsCommit (λ q. told (file_of q)) schema x.0.generation (commit_file l.schema x.0) (records_of (portions_in x.0))) fields
             (held_commit told files agrees l.schema x.0 x.1.whole.1 x.1.stored)));
-        text = sym (ap (text_under (commits from run)) is ∙ ap found_text x.1.text);
+        text = sym (ap (text_under (commits from run)) is ∙ ap (λ o. option_map_or (λ (c : CommitText). c.text) o []) x.1.text);
         reaches = ap (committed_at from run) is ∙ x.1.reaches;
       }
 

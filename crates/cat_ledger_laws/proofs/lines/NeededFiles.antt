@@ -2,6 +2,7 @@
 use Rattle.std.proofs.Common.{◌≡◌, ℕ, ◌<◌, List, [], ◌∷◌, length, map, Bool, true, false, ◌&&◌, cond, Some, refl, sym, ◌∙◌, ap, subst, inl, inr}
 use Rattle.std.specs.Prelude.{◌==◌, All}
 use Rattle.std.specs.List.{flat_map, list_any, AllByRecursion}
+use Rattle.std.specs.Option.{option_map_or}
 use Rattle.std.proofs.lemmas.Bool.Decides.{eqb_tells}
 use Rattle.std.proofs.lemmas.List.Elements.{All-from_recursion}
 use Rattle.cat_model.specs.CommitFile.{CommitFile, SpellsCommit}
@@ -9,9 +10,9 @@ use Rattle.cat_model.specs.Files.{Name}
 use Rattle.cat_model.specs.Item.{Record}
 use Rattle.cat_model.specs.Layout.{SpellsSegment}
 use Rattle.cat_model.specs.LiveFile.{SpellsLive}
-use Rattle.cat_model.specs.Run.{Run, writes, has, holds, view_tokens, commits, commit_under, committed_at, found_text, is_kept, text_under}
+use Rattle.cat_model.specs.Run.{Run, writes, has, holds, view_tokens, commits, commit_under, committed_at, is_kept, text_under}
 use Rattle.cat_model.specs.State.{Commit, Hold, RecordedTable, IsCommitOf, StandsFor, has_hold, held_in, table_recorded, told_by}
-use Rattle.cat_model.specs.Table.{Opened, table}
+use Rattle.cat_model.specs.Table.{Opened, CommitText, table}
 use Rattle.cat_model.specs.Text.{Text}
 use Rattle.cat_model.specs.View.{View}
 use Rattle.cat_model.proofs.Lists.{All-weaken, All-both, All-each}
@@ -230,7 +231,7 @@ module _ (told : ToldFiles) (from : Opened) (run : Run) (l : Ledger) (files : Fi
       let is : g ≡ x.0.generation = equals g x.0.generation x.2 in record {
         commit = commit_file l.schema x.0;
         generation = sym is;
-        text = sym (ap (text_under (commits from run)) is ∙ ap found_text x.1.1.1.0);
+        text = sym (ap (text_under (commits from run)) is ∙ ap (λ o. option_map_or (λ (c : CommitText). c.text) o []) x.1.1.1.0);
         reaches = ap (committed_at from run) is ∙ x.1.1.1.1;
         so_far = x.1.1.0.reached;
         stands = subst (CommitStands told l.users (commit_file l.schema x.0)) x.1.1.0.table x.1.0;

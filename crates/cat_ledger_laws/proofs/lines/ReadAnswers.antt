@@ -2,6 +2,7 @@
 use Rattle.std.proofs.Common.{◌≡◌, ◌≢◌, ℕ, List, [], ◌∷◌, length, map, Bool, true, false, cond, Option, Some, None, refl, sym, ◌∙◌, ap, ap₂, subst, arith, inl}
 use Rattle.std.specs.Prelude.{◌==◌, Ok, Err, option_map, is_some}
 use Rattle.std.specs.List.{find, AllByRecursion}
+use Rattle.std.specs.Option.{option_map_or}
 use Rattle.std.proofs.lemmas.Bool.Decides.{nat_tests}
 use Rattle.std.proofs.lemmas.List.Elements.{All-from_recursion, recursion_from_All}
 use Rattle.cat_model.specs.cat_base.declared.refusal.Refusal.TheVariants.{NotHeld, NoCommit}
@@ -9,7 +10,7 @@ use Rattle.cat_model.specs.Answer.{Read, Found, answer, stored, query_refusal}
 use Rattle.cat_model.specs.CommitFile.{CommitFile}
 use Rattle.cat_model.specs.Files.{Name}
 use Rattle.cat_model.specs.Item.{Schema, Record}
-use Rattle.cat_model.specs.Run.{Command, Answer, Reply, found_reply, or_not_held, read_reply, found_text, text_under}
+use Rattle.cat_model.specs.Run.{Command, Answer, Reply, found_reply, or_not_held, read_reply, text_under}
 use Rattle.cat_model.specs.State.{Commit, RecordedTable, found_table, has_commit, has_hold, table_under, told_by}
 use Rattle.cat_model.specs.Table.{CommitText}
 use Rattle.cat_model.specs.Text.{Text, same_text}
@@ -203,7 +204,7 @@ text_kept s l e g c is =
     let x = found_in (commit_file l.schema) (λ (c : CommitFile). c.generation == g) l.commits c (ap (λ (s : Shape). kept_under s.commits g) e ∙ is) in
     let as_told : LedgerCommit → CommitText = λ c. told_by (commit_shown c) in
     ap (λ cs. text_under cs g) (map_twice commit_shown told_by l.commits)
-    ∙ ap found_text (find_map as_told (λ (c : CommitText). c.generation == g) l.commits ∙ ap (option_map as_told) x.2)
+    ∙ ap (λ o. option_map_or (λ (c : CommitText). c.text) o []) (find_map as_told (λ (c : CommitText). c.generation == g) l.commits ∙ ap (option_map as_told) x.2)
     ∙ ap (λ (f : CommitFile). f.text) x.1
 
 pub commit_files_answer : CommitFilesAnswer

@@ -10,8 +10,7 @@ use Rattle.std.proofs.lemmas.Grind.{flat_map-append}
 use Rattle.cat_model.specs.Item.{Record}
 use Rattle.cat_model.specs.Files.{Name}
 use Rattle.cat_model.specs.View.{selected}
-use Rattle.cat_model.specs.Run.{is_newest}
-use Rattle.cat_model.specs.State.{Commit, newest_of, newest_told, is_below, snapshots_in, stays_kept, commits_kept, commit_now, IsSound}
+use Rattle.cat_model.specs.State.{Commit, newest_of, newest_told, is_below, snapshots_in, stays_kept, commits_kept, commit_now, IsSound, is_newest}
 use Rattle.cat_model.proofs.Lists.{All-weaken, All-both, All-kept}
 use Rattle.cat_model.proofs.Commits.{newest-pushed, filter_last, is_newest-self}
 use Rattle.cat_ledger_laws.specs.model.Portions.{Portion, records_of, all_records, lives_of, Apart, Merging, IsMerging}

@@ -6,8 +6,8 @@ use Rattle.std.proofs.lemmas.Bool.{eq-eqb, lt-ltb, cases_lt}
 use Rattle.std.proofs.lemmas.Bool.Decides.{eqb_tells}
 use Rattle.std.proofs.lemmas.List.{map-append, take-append-le, take_min}
 use lib.Seq.{drop-drop, take-take, take-append-add}
-use Rattle.cat_model.specs.Text.{Text}
-use Rattle.cat_model.specs.Input.{ended_after, rest_after, ended_lines, last_line, lines_of}
+use Rattle.cat_model.specs.Text.{Text, one_or_none}
+use Rattle.cat_model.specs.Input.{ended_after, rest_after, ended_lines, lines_of}
 use Rattle.cat_protocol.specs.serving.Machine.{short_line}
 
 abbrev pub short_by : ℕ → Text → Option Text
@@ -153,12 +153,12 @@ module _ (n : ℕ) where
   rest_gathered [] p = take-take (n + 2) (n + 2) p (omega arith)
   rest_gathered (b ∷ bytes) p = rest_gathered_by (b == 10) b p bytes (rest_gathered bytes)
 
-  pub last_gathered : (p : Text) → shown (last_line (gathered p)) ≡ shown (last_line p)
-  last_gathered [] = ap (λ l. shown (last_line l)) (take_all (n + 2) [] (omega arith))
+  pub last_gathered : (p : Text) → shown (one_or_none (gathered p)) ≡ shown (one_or_none p)
+  last_gathered [] = ap (λ l. shown (one_or_none l)) (take_all (n + 2) [] (omega arith))
   last_gathered (b ∷ p) =
       let one : n + 2 ≡ suc (n + 1) = omega arith in
       let e = ap (λ k. take k (b ∷ p)) one in
-      ap (λ l. shown (last_line l)) e ∙ ap (λ o. o ∷ []) (ap (short_by n) (sym e) ∙ short_gathered n (b ∷ p))
+      ap (λ l. shown (one_or_none l)) e ∙ ap (λ o. o ∷ []) (ap (short_by n) (sym e) ∙ short_gathered n (b ∷ p))
 
 -- ---- what the code does at a line feed
 
@@ -192,8 +192,8 @@ ended_same bytes p q e = sym (ended_gathered 10000 bytes p) ∙ ap (λ l. shown_
 pub rest_same : (bytes p q : Text) → take 10002 p ≡ take 10002 q → take 10002 (rest_after p bytes) ≡ take 10002 (rest_after q bytes)
 rest_same bytes p q e = sym (rest_gathered 10000 bytes p) ∙ ap (λ l. take 10002 (rest_after l bytes)) e ∙ rest_gathered 10000 bytes q
 
-pub last_same : (p q : Text) → take 10002 p ≡ take 10002 q → shown_lines (last_line p) ≡ shown_lines (last_line q)
-last_same p q e = sym (last_gathered 10000 p) ∙ ap (λ l. shown_lines (last_line l)) e ∙ last_gathered 10000 q
+pub last_same : (p q : Text) → take 10002 p ≡ take 10002 q → shown_lines (one_or_none p) ≡ shown_lines (one_or_none q)
+last_same p q e = sym (last_gathered 10000 p) ∙ ap (λ l. shown_lines (one_or_none l)) e ∙ last_gathered 10000 q
 
 -- more bytes after the first
 pub ended_on : (bytes more gathered : Text) → take 10002 gathered ≡ take 10002 (rest_after [] bytes)
@@ -225,10 +225,10 @@ no_feed (b ∷ bytes) front e = no_feed_by (b == 10) b bytes front (no_feed byte
 -- an input without a line feed is one line
 pub one_line : (bytes : Text) → ended_lines bytes ≡ [] → lines_of bytes ≡ bytes ∷ []
 one_line [] e = refl
-one_line (b ∷ bytes) e = ap (λ l. l ++ last_line (rest_after [] (b ∷ bytes))) e ∙ ap last_line (no_feed (b ∷ bytes) [] e)
+one_line (b ∷ bytes) e = ap (λ l. l ++ one_or_none (rest_after [] (b ∷ bytes))) e ∙ ap one_or_none (no_feed (b ∷ bytes) [] e)
 
 pub lines_end : (b : ℕ) (bytes gathered : Text) → take 10002 gathered ≡ take 10002 (rest_after [] (b ∷ bytes))
-    → shown_lines (ended_lines (b ∷ bytes)) ++ shown_lines (last_line gathered) ≡ shown_lines (lines_of (b ∷ bytes))
+    → shown_lines (ended_lines (b ∷ bytes)) ++ shown_lines (one_or_none gathered) ≡ shown_lines (lines_of (b ∷ bytes))
 lines_end b bytes gathered e =
     ap (λ l. shown_lines (ended_lines (b ∷ bytes)) ++ l) (last_same gathered (rest_after [] (b ∷ bytes)) e)
-    ∙ sym (map-append short_line (ended_lines (b ∷ bytes)) (last_line (rest_after [] (b ∷ bytes))))
+    ∙ sym (map-append short_line (ended_lines (b ∷ bytes)) (one_or_none (rest_after [] (b ∷ bytes))))

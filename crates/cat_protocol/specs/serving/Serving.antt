@@ -3,8 +3,8 @@ use Rattle.std.specs.Prelude.{◌≡◌, ◌≤◌, ◌⊎◌, ℕ, Option, Resu
 use Rattle.std.specs.Io.KnownBytes.{Appends, Consumes, IsAtEnd, Keeps}
 use Rattle.cat_base.specs.declared.refusal.Refusal.{Refusal}
 use Rattle.cat_base.specs.declared.refusal.Refusal.TheVariants.{Memory}
-use Rattle.cat_model.specs.Text.{Text}
-use Rattle.cat_model.specs.Input.{ended_lines, last_line, lines_of, HaveCome}
+use Rattle.cat_model.specs.Text.{Text, one_or_none}
+use Rattle.cat_model.specs.Input.{ended_lines, lines_of, HaveCome}
 use Rattle.cat_model.specs.Served.{Outcome, outcome_text, refused_text, AppendsFront, Ending}
 use Rattle.cat_protocol.specs.declared.sending.pieces.WriteFault.{WriteFault}
 use Rattle.cat_protocol.specs.serving.Machine.{short_line, opened_text, IsAnsweredByMachine, Steps}
@@ -113,7 +113,7 @@ pub record ServesLines {M S : Type 0} (says : Stage M S → Option Text → Text
 abbrev pub last_lines : {M S : Type 0} → Stage M S → Text → List Text
 last_lines (Waiting seed) gathered = gathered ∷ []
 last_lines (Refused back) gathered = []
-last_lines (Open machine) gathered = last_line gathered
+last_lines (Open machine) gathered = one_or_none gathered
 
 -- ---- the whole
 

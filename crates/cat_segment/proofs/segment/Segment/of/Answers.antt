@@ -2,7 +2,8 @@ use Rattle.std.proofs.Common.{◌<◌, ◌^◌, length, map, ap, ◌∙◌}
 use Rattle.std.specs.Prelude.{All}
 use Rattle.std.specs.List.{range_with_len}
 use Rattle.cat_model.specs.Text.{Text}
-use Rattle.cat_model.specs.View.{row_of, IsFormedRow, words_of_field}
+use Rattle.cat_model.specs.View.{row_of, IsFormedRow}
+use Rattle.cat_model.specs.Layout.{words_of_field}
 use Rattle.cat_segment.specs.Fields.{contents_of_rows, row_record}
 use Rattle.cat_segment.proofs.Made.{fields_right, rows_formed, rows_words, IsMade, rows_in_body, IsBody-made}
 use Rattle.cat_segment.proofs.segment.Segment.of.Goals as goal
