@@ -7,12 +7,14 @@ usage: tests/chores.py PROGRAM        (the catalogue)
 Merges, sets in the making, sweeps and commits change which files and segments there are, and nothing that a session is told of
 the table. So for each day of lines, each place in it, and each of five lines of upkeep, the day is served with that line there,
 and the replies to its other lines are compared with those of the day as it stands, which tests/days.py holds against what is
-wanted. The last line is `N passed, M failed`: a day with one line of upkeep, at every place, counts as one.
+wanted. In a long day most places are alike: there the first and the last few of those that are alike are tried. The last line is
+`N passed, M failed`: a day with one line of upkeep, at all of its places, counts as one.
 """
 
 import re
 import subprocess
 import sys
+from collections import defaultdict
 from concurrent.futures import ThreadPoolExecutor
 from pathlib import Path
 
@@ -24,9 +26,13 @@ UPKEEP = ("MERGE", "FORCE", "WARM", "SWEEP", "COMMIT")
 COMPARED = re.compile(rb"\d+ (FIND|FACETS|GET|PUT|DEL|DELW|REFRESH|OPEN|CLOSE)\b")
 # A line with a session and no command is answered so and changes nothing: it stands between replies, whose lines it counts off.
 BETWEEN, TOLD = b"9876 NOTHING\n", b"9876 NO 10\n"
-# Longer days are of limits: hundreds of lines that are alike, or lines of many bytes.
-MOST_LINES = 60
-MOST_BYTES = 10_000
+# A day of so many lines has one of upkeep behind each of them. Longer days are of limits, and say one thing of a thousand ids.
+MOST_LINES = 400
+# Of places in a longer day that are alike, so many are tried from the first on, and as many up to the last.
+FEW = 4
+# Days of more bytes have lines of megabytes, and aren't tried.
+MOST_BYTES = 100_000
+NUMBER = re.compile(rb"\d+")
 
 
 def replies(program, lines):
@@ -34,6 +40,16 @@ def replies(program, lines):
     text = b"".join(line + BETWEEN for line in lines)
     ran = subprocess.run([program], input=text, stdout=subprocess.PIPE, stderr=subprocess.PIPE, timeout=SECONDS)
     return ran.stdout.split(TOLD)[:-1]
+
+
+def places(lines):
+    """Behind which lines one of upkeep is put. Places are alike where the lines around them are, but for their numbers."""
+    if len(lines) <= MOST_LINES:
+        return range(len(lines))
+    alike = defaultdict(list)
+    for at, around in enumerate(zip(lines, [*lines[1:], b""])):
+        alike[tuple(NUMBER.sub(b"0", it) for it in around)].append(at)
+    return sorted({at for them in alike.values() for at in [*them[:FEW], *them[-FEW:]]})
 
 
 def changed(program, lines, wanted, at, upkeep):
@@ -46,12 +62,12 @@ def changed(program, lines, wanted, at, upkeep):
 
 
 def is_kept(program, what, lines, upkeep):
-    """Whether the day is answered alike with the line of upkeep behind any of its lines."""
+    """Whether the day is answered alike with the line of upkeep at any of its places."""
     wanted = replies(program, lines)
     if len(wanted) != len(lines):
         print(f"chores: {what} FAILED: {len(lines)} lines were answered by {len(wanted)} replies")
         return False
-    for at in range(len(lines)):
+    for at in places(lines):
         line = changed(program, lines, wanted, at, upkeep)
         if line is not None:
             print(f"chores: {what} FAILED: behind {lines[at]!r} 0 {upkeep} changes what is answered to {line!r}")
@@ -64,8 +80,8 @@ def given():
     for day in days():
         for start in day.starts:
             lines = start.lines
-            is_short = 1 < len(lines) <= MOST_LINES and sum(map(len, lines)) <= MOST_BYTES
-            if start.words is None and is_short and not start.is_refused() and lines[-1].endswith(b"\n"):
+            is_told = len(lines) > 1 and sum(map(len, lines)) <= MOST_BYTES
+            if start.words is None and is_told and not start.is_refused() and lines[-1].endswith(b"\n"):
                 yield f"{day.place} {day.title}", lines
 
 
