@@ -1,9 +1,7 @@
 //! What lies under the lock.
-ghost use Rattle.std.specs.Prelude.{◌≡◌, ◌≢◌, ◌⊎◌, ◌+◌, ◌-◌, ◌≤◌, suc, true, [], ◌∷◌, ◌++◌, length, option_map, IfOk, OnErr, OnOk, IfErr, Ok, None};
+ghost use Rattle.std.specs.Prelude.{◌≡◌, ◌≢◌, ◌⊎◌, ◌+◌, ◌-◌, ◌≤◌, suc, true, [], ◌∷◌, ◌++◌, length, IfOk, OnErr, OnOk, IfErr, Ok, None};
 ghost use Rattle.crossbeam_utils.specs.Seq.{cell_view};
 ghost use Rattle.cat_base.specs.declared.refusal.Refusal.TheVariants.{Device, Full, Gone, Kind, Memory, NotHeld, Spent};
-ghost use Rattle.cat_model.specs.Answer.{HasNoLineFeed};
-ghost use Rattle.cat_commands.specs.cat_ledger_state.cat_views.Sources.{stored_length};
 ghost use Rattle.cat_commands.specs.cat_ledger.Grants.{released_session, released_token};
 ghost use Rattle.cat_commands.specs.cat_ledger.Ledgers.{device_in, shape_in};
 ghost use Rattle.cat_threads.specs.history.Entries.{entry, has_session};
@@ -206,16 +204,6 @@ impl<D: Directory + Shelf, J: Naming> Desk<D, J> {
         ensures back { IfErr result (λ h. h ≡ hold) }
     {
         self.keeper.release(session, hold)
-    }
-
-    /// The text that the item of this id came as, in the held view.
-    pub(crate) fn source(&mut self, hold: &Hold, id: &str) -> Result<Option<Vec<u8>>, Refusal>
-        ensures same { self.new ≡ self.old }
-        ensures whole { IfOk result (λ found. option_map (λ bytes. length bytes.items) found ≡ stored_length hold.now.view id.now) }
-        ensures one_line { IfOk result (λ found. HasNoLineFeed (option_map (λ bytes. bytes.items) found)) }
-        ensures none { stored_length hold.now.view id.now ≡ None → result ≡ Ok None }
-    {
-        self.keeper.source(hold, id)
     }
 
     /// Notes that the query was asked.

@@ -1,8 +1,6 @@
 //! A ledger, with the sets of rows that are cached beside it.
-ghost use Rattle.std.specs.Prelude.{◌≡◌, ◌⊎◌, All, ℕ, ◌+◌, IfOk, IfErr, OnErr, OnOk, Ok, Err, None, length, option_map, true};
+ghost use Rattle.std.specs.Prelude.{◌≡◌, ◌⊎◌, All, ℕ, ◌+◌, IfOk, IfErr, OnErr, OnOk, Ok, Err, None, true};
 ghost use Rattle.cat_base.specs.declared.refusal.Refusal.TheVariants.{Device, Full, Gone, Kind, Memory, NotHeld, Spent};
-ghost use Rattle.cat_directory.specs.declared.name.FileName.{FileName};
-ghost use Rattle.cat_model.specs.Answer.{HasNoLineFeed};
 ghost use Rattle.cat_model.specs.State.{has_hold};
 ghost use Rattle.cat_model.specs.View.{segments_of};
 ghost use Rattle.cat_ledger_laws.specs.model.Replies.{IsLeft};
@@ -11,7 +9,6 @@ ghost use Rattle.cat_ledger_laws.specs.lines.LineLaws.{MayRefresh, Refreshes, te
 ghost use Rattle.cat_ledger_laws.specs.lines.ReadLaws.{IsRecordedAs};
 ghost use Rattle.cat_ledger_laws.specs.lines.RefusalLaws.{command_of};
 ghost use Rattle.cat_commands.specs.cat_cached_sets.filters.Known.{Knows, Remembers, RemembersBelow};
-ghost use Rattle.cat_commands.specs.cat_ledger_state.cat_views.Sources.{stored_length};
 ghost use Rattle.cat_commands.specs.cat_ledger.Answering.{AnswersCommand};
 ghost use Rattle.cat_commands.specs.cat_ledger.Grants.{IsAsked, IsGrant, released_session, released_token, token_granted};
 ghost use Rattle.cat_commands.specs.cat_ledger.Ledgers.{DoesCall, device_in, shape_in};
@@ -32,7 +29,7 @@ use cat_directory::{Directory, Shelf};
 use std::alloc::Global;
 use std::marker::Model;
 
-/// That a query was noted. [`Service::note_query`](crate::Service::note_query) alone makes one, and it can't be copied, so who
+/// That a query was noted. [`Service::note_if_free`](crate::Service::note_if_free) alone makes one, and it can't be copied, so who
 /// has it is sure of the call.
 #[derive(Drop)]
 pub struct Noted {
@@ -143,17 +140,6 @@ impl<D: Directory + Shelf> Keeper<D> {
         ensures same { device_in self.new ≡ device_in self.old }
     {
         self.ledger.release(session, hold)
-    }
-
-    /// As [`Ledger::source`].
-    pub(crate) fn source(&mut self, hold: &Hold, id: &str) -> Result<Option<Vec<u8>>, Refusal>
-        ensures whole { IfOk result (λ found. option_map (λ bytes. length bytes.items) found ≡ stored_length hold.now.view id.now) }
-        ensures one_line { IfOk result (λ found. HasNoLineFeed (option_map (λ bytes. bytes.items) found)) }
-        ensures none { stored_length hold.now.view id.now ≡ None → result ≡ Ok None }
-        ensures shape { shape_in self.new ≡ shape_in self.old }
-        ensures same { (q : FileName) → D.bytes (device_in self.new) q ≡ D.bytes (device_in self.old) q }
-    {
-        self.ledger.source(hold, id)
     }
 
     /// The query, made ready for the view that the session has a right to under the token, with the sets that are cached: what

@@ -1,9 +1,7 @@
 //! The service: the ledger under a lock, beside the words that its callers share.
-ghost use Rattle.std.specs.Prelude.{◌≡◌, ◌≢◌, ◌⊎◌, List, IfOk, OnErr, OnOk, IfErr, Ok, None, [], length, map, option_map, true};
+ghost use Rattle.std.specs.Prelude.{◌≡◌, ◌≢◌, ◌⊎◌, List, IfOk, OnErr, OnOk, IfErr, Ok, None, [], map, true};
 ghost use Rattle.crossbeam_utils.specs.Seq.{cell_view};
 ghost use Rattle.cat_base.specs.declared.refusal.Refusal.TheVariants.{Device, Full, Gone, Kind, Memory, NotHeld, Spent};
-ghost use Rattle.cat_model.specs.Answer.{HasNoLineFeed};
-ghost use Rattle.cat_commands.specs.cat_ledger_state.cat_views.Sources.{stored_length};
 ghost use Rattle.cat_commands.specs.cat_ledger.Grants.{released_session, released_token};
 ghost use Rattle.cat_commands.specs.cat_ledger.Ledgers.{device_in, shape_in};
 ghost use Rattle.cat_threads.specs.history.Rules.{Each, scribe as scribe_sight};
@@ -96,27 +94,11 @@ impl<D: Directory + Shelf, J: Naming> Service<D, J> {
     }
 
     /// The query, made ready for the view that the caller's session has a right to under the token, with the sets of rows that
-    /// are cached for it. It shows the table of the list at the token; what is asked of it needs no lock. (Lucene: an
-    /// `IndexSearcher` of the reader that is held, with its `LRUQueryCache`.)
+    /// are cached for it. It shows the table of the list at the token; what is asked of it needs no lock. Where somebody else
+    /// has the lock, the query comes back: it doesn't wait. (Lucene: an `IndexSearcher` of the reader that is held, with its
+    /// `LRUQueryCache`.)
     ///
     /// [`Refusal::NotHeld`] where the session doesn't hold the token; else [`Refusal::Memory`].
-    pub fn prepare<R: Wait>(
-        &self,
-        rt: &R,
-        me: &mut Pass<J>,
-        token: Token,
-        query: Query,
-    ) -> Result<Prepared, Refusal>
-        ensures seen { Follows me.old me.new }
-        ensures idle { Idle me.old me.new }
-        ensures query { IfOk result (λ p. p.query ≡ query) }
-        ensures shown { IfOk result (λ p. (p.view.token ≡ token) × IsOfGroundList J.from me.new.list p.view) }
-        ensures refusal { IfErr result (λ e. (e ≡ NotHeld) ⊎ (e ≡ Memory)) }
-    {
-        self.desk.lock(rt).prepare(rt, &self.cell, me, token, query)
-    }
-
-    /// As [`Service::prepare`], where the lock is free: it doesn't wait. The query comes back where somebody else has the lock.
     pub fn prepare_if_free<R: Wait>(
         &self,
         rt: &R,
@@ -140,26 +122,9 @@ impl<D: Directory + Shelf, J: Naming> Service<D, J> {
         }
     }
 
-    /// The text that the item of this id came as, in the held view; none where no live row has the id. It is read from the
-    /// ledger's own directory, so it needs the lock: a session with a shelf of its own asks [`Hold::get`], which needs none.
-    /// (Lucene: `StoredFields.document`.)
-    ///
-    /// The refusals are those of [`Ledger::source`].
-    pub fn source<R: Wait>(&self, rt: &R, hold: &Hold, id: &str) -> Result<Option<Vec<u8>>, Refusal>
-        ensures whole { IfOk result (λ found. option_map (λ bytes. length bytes.items) found ≡ stored_length hold.now.view id.now) }
-        ensures one_line { IfOk result (λ found. HasNoLineFeed (option_map (λ bytes. bytes.items) found)) }
-        ensures none { stored_length hold.now.view id.now ≡ None → result ≡ Ok None }
-    {
-        self.desk.lock(rt).source(hold, id)
-    }
-
     /// Notes that the query was asked, so that a [`warmer`](crate::running::warmer) makes sets for it. It takes no memory:
-    /// [`Prepared::into_query`] gives a query back once its answer is made. (Lucene: `UsageTrackingQueryCachingPolicy.onUse`.)
-    pub fn note_query<R: Wait>(&self, rt: &R, query: Query) -> Noted {
-        self.desk.lock(rt).note(query)
-    }
-
-    /// As [`Service::note_query`], where the lock is free: it doesn't wait. None where somebody else has the lock.
+    /// [`Prepared::into_query`] gives a query back once its answer is made. None where somebody else has the lock: it doesn't
+    /// wait. (Lucene: `UsageTrackingQueryCachingPolicy.onUse`.)
     pub fn note_if_free(&self, query: Query) -> Option<Noted> {
         match self.desk.try_lock() {
             Some(desk) => {
