@@ -51,6 +51,14 @@ MOSTLY_DEAD = (
     (False, '{"id":"h","color":["white","green"]}'),
     (False, '{"id":"i"}'),
 )
+# Labels that stand at another place in each segment, and one of a dead row alone.
+PLACED = (
+    (True, '{"id":"a","color":["red","blue"]}'),
+    (False, '{"id":"b","color":["green"]}'),
+    (True, '{"id":"c","color":["red","amber"]}'),
+    (True, '{"id":"d"}'),
+    (True, '{"id":"e","color":["blue"]}'),
+)
 # Where the segments of four rows end: one, two, and each row in one of its own.
 CUTS = ((4,), (1, 4), (3, 4), (1, 2, 3, 4))
 # What a case shows, its rows, each way to cut them, and counts: how many labels at most, the dimension, the query, and what is
@@ -164,6 +172,19 @@ COUNTED = (
             (9, "color", "color:blue", "1 2: 1 blue, 1 red"),
             (9, "color", "*:* -color:blue", "8 1: 8 red"),
             (9, "color", "*:* -color:red", "0 0"),
+        ),
+    ),
+    (
+        # The third segment has no label, and the first one that no live row has.
+        "labels have their places among those of all segments",
+        PLACED,
+        ((2, 3, 4, 5), (5,),),
+        (
+            (9, "color", "*:*", "3 3: 2 blue, 2 red, 1 amber"),
+            (1, "color", "*:*", "3 3: 2 blue"),
+            (9, "color", "color:blue", "2 2: 2 blue, 1 red"),
+            (9, "color", "color:amber", "1 2: 1 amber, 1 red"),
+            (9, "color", "color:green", "0 0"),
         ),
     ),
     (

@@ -12,6 +12,8 @@ from pathlib import Path
 
 import counted
 import pages
+import shown
+import thrown
 
 FOLDER = Path(__file__).resolve().parent / "days"
 # What the program is told first where a day doesn't say so itself, and the reply.
@@ -238,7 +240,7 @@ def days():
     found = []
     files = sorted(FOLDER.glob("*"))
     texts = [(it.name, it.read_bytes()) for it in files if it.suffix == ".txt"]
-    texts += [(f"{it.__name__}.py", it.text().encode()) for it in (counted, pages)]
+    texts += [(f"{it.__name__}.py", it.text().encode()) for it in (counted, pages, shown, thrown)]
     others = [it.name for it in files if it.suffix != ".txt" and it.name != "README.md"]
     if others:
         raise Unreadable(f"tests/days has files of no days: {others}")
