@@ -629,7 +629,25 @@ class Tests:
         try:
             self.expect(f"{what}: STAT", self.shape(child), (token, 1, len(items), len(items)))
             self.reads(what, child, token, items)
-            self.expect(f"{what}: FORCE", child.say(["0 FORCE", f"1 DEL {items[0].id}", "0 FORCE"]), ["OK idle", f"OK {token + 1}", "OK begun 1"])
+            told = child.say(["0 FORCE", f"1 DEL {items[0].id}", "1 COMMIT a row less", "0 FORCE"])
+            self.expect(f"{what}: FORCE", told, ["OK idle", f"OK {token + 1}", "OK 3", "OK begun 1"])
+            self.expect(f"{what}: the end", child.end(), "status 0")
+        finally:
+            child.kill()
+
+    def a_row_less(self):
+        """Its live rows are all but the first, as the file says, and as it is read again."""
+        items = self.items[1:-1]
+        what, token, rows = "a row less", len(items) + 3, len(items) + 1
+        names = sorted(os.listdir(self.folder))
+        number = names[0][1:].partition(".")[0]
+        self.expect(f"{what}: files", names, [f"_{number}.seg", f"_{number}.sto", f"_{number}_3.liv", "segments_3"])
+        live = b"CLIV\1" + u64(int(number)) + u64(3) + u32(rows) + b"\xfe" + b"\xff" * (rows // 8 - 1)
+        self.expect(f"{what}: live rows", (self.folder / names[2]).read_bytes() == live, True)
+        child = self.open_folder(what, schema_line(100, 1_024), token)
+        try:
+            self.expect(f"{what}: STAT", self.shape(child), (token, 1, rows, rows - 1))
+            self.reads(what, child, token, items)
             self.expect(f"{what}: the end", child.end(), "status 0")
         finally:
             child.kill()
@@ -705,6 +723,7 @@ def main():
         tests.run(tests.as_many_segments_as_may_stand)
         tests.run(tests.all_of_them_in_one)
         tests.run(tests.the_full_segment_again)
+        tests.run(tests.a_row_less)
         if arguments.long:
             tests.run(tests.a_segment_for_each_write)
     finally:

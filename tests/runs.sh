@@ -23,6 +23,7 @@ else
   begin 'tests/believed.py' tests/believed.py
   begin 'tests/days.py' tests/days.py "$program" "$check"
   begin 'tests/commits.py' tests/commits.py "$program" "$check"
+  begin 'tests/segments.py' tests/segments.py "$program" "$check"
   begin 'tests/ledgers.py' tests/ledgers.py "$program"
   begin 'tests/merges.py' tests/merges.py "$program"
   begin 'tests/chores.py' tests/chores.py "$program"

@@ -3,10 +3,10 @@
 
 First come FINDs with what a person worked out that they show, over rows that are cut in several ways, without sets of rows at hand,
 with sets for some of the segments, and for all; and queries with whether they match an item, which waits or stands in a segment.
-Then pages by price, by brand and in order of addition over 150 rows in three
-segments, of which many tie, stand at an end of the integers, have no value, or are dead; behind rows of each segment, dead ones, and
-one that isn't there. What these have to show is worked out here, by a look at each row: beside each query stands what it says of a
-row, so no text of a query is read. tests/days.py serves these days with the others.
+Then pages by price, by brand and in order of addition over 150 rows in three segments, of which many tie, stand at an end of the
+integers, have no value, or are dead; behind rows of each segment, dead ones, and one that isn't there. What these have to show is
+worked out here, by a look at each row: beside each query stands what it says of a row, so no text of a query is read. tests/days.py
+serves these days with the others.
 """
 
 import json
@@ -268,8 +268,8 @@ def asked_of(text, queries):
 
 COUNT = 150
 ENDS = (70, 140, 150)
-# No mark, rows of each segment, of which every third is dead where rows are, and one that isn't there.
-MARKS = (None, 1, 2, 3, 35, 70, 71, 72, 148, 151)
+# No mark, rows of each segment, of which every third is dead where rows are, beside the 64th too, and one that isn't there.
+MARKS = (None, 1, 2, 3, 35, 64, 65, 70, 71, 72, 148, 151)
 LEAST, GREATEST = -(2**63), 2**63 - 1
 FIVE = ({}, {"price": 5, "brand": "cord"}, {"price": -1, "brand": "acme"}, {"price": 0, "brand": "bolt"}, {"price": 44, "brand": "east"}, {"price": 43, "brand": "dune"})
 WORDS = (

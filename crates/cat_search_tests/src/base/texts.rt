@@ -1,5 +1,4 @@
 //! Texts and sets of texts.
-use crate::columns::texts::set;
 use crate::verdict::{expect, expect_none, expect_yes};
 use cat_base::{SHORT_BYTES, Text, TextSet};
 use std::alloc::{AllocError, Global};
@@ -174,6 +173,15 @@ fn are_a_and_b(alloc: Global, set: &TextSet) -> Result<bool, AllocError> {
 /// Whether nothing is in the set.
 fn has_nothing(set: &TextSet) -> bool {
     set.is_empty() && set.as_slice().is_empty() && !set.contains("a") && set.len() == 0
+}
+
+/// The set of these texts.
+fn set(alloc: Global, words: &[&str]) -> Result<TextSet, AllocError> {
+    let mut texts = Vec::new(alloc);
+    for word in words {
+        texts.push(Text::from_str(alloc, word)?)?;
+    }
+    Ok(TextSet::of(texts))
 }
 
 /// Whether a set of the texts "b", "a" and "b" has each once, and a new one none.

@@ -1,11 +1,20 @@
 //! Schemas: their fields, and which are equal or accept an item. Which texts are no schemas are days of lines:
 //! `tests/days/items.txt`.
-use crate::columns::parts::are_fields;
 use crate::verdict::{expect, expect_yes};
 use cat_base::Refusal;
-use cat_items::{Item, Kind, Schema};
+use cat_items::{Field, Item, Kind, Schema};
 use std::alloc::Global;
 use std::test::Fail;
+
+/// Whether the fields have these names and kinds.
+fn are_fields(fields: &[Field], want: &[(&str, Kind)]) -> bool {
+    for (field, (name, kind)) in fields.iter().zip(want) {
+        if field.name() != *name || field.kind() != *kind {
+            return false;
+        }
+    }
+    fields.len() == want.len()
+}
 
 #[test]
 fn schema_fields(rt: HostRuntime) -> Result<(), Fail> {
