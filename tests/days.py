@@ -4,10 +4,10 @@
 usage: tests/days.py PROGRAM CHECK        (the catalogue, and catalogue_check)
 
 A day is a text of tests/days, in the form that the README there tells, of tests/pages.py, tests/shown.py or tests/thrown.py, which
-work their replies out, or of tests/counted.py, which cuts the same rows into segments in several ways. Where it doesn't say how the program is started, it is
-served both in memory and over a new folder. A stored run is the files stdin, args, stdout, status and data/ beside a program's
-src/, on which `rt ci` runs it too, or in a folder of tests/stored, for the catalogue. The last line is `N passed, M failed`: a
-day counts as one, and so does that texts with a slip in them are refused.
+work their replies out, or of tests/counted.py, which cuts the same rows into segments in several ways. Where it doesn't say how the
+program is started, it is served both in memory and over a new folder. A stored run is the files stdin, args, stdout, status and
+data/ beside a program's src/, on which `rt ci` runs it too, or in a folder of tests/stored, for the catalogue. The last line is
+`N passed, M failed`: a day counts as one, and so does that texts with a slip in them are refused.
 """
 
 import os
