@@ -274,15 +274,18 @@ def with_sets(asked, segments):
     yield from ("> 0 WARM", "0 OK idle")
 
 
-def text():
-    """The days."""
-    lines = []
-    for title, rows, cuts, counts in COUNTED:
+def in_cuts(cases, replies):
+    """The days of the cases, each in all of its cuts, without sets at hand and with them."""
+    for title, rows, cuts, asked in cases:
         for ends in cuts:
             cut = f", in segments that end at {', '.join(map(str, ends))}" if ends else ""
-            lines += [f"== {title}{cut}", *written(rows, ends), *with_sets(counted(rows, counts), len(ends)), ""]
+            yield from (f"== {title}{cut}", *written(rows, ends), *with_sets(replies(rows, asked), len(ends)), "")
+
+
+def text():
+    """The days."""
     pages = with_sets(found(), len(PRICED_ENDS))
-    return "\n".join([*lines, "== dead rows of a set are no hits", *written(PRICED, PRICED_ENDS), *pages]) + "\n"
+    return "\n".join([*in_cuts(COUNTED, counted), "== dead rows of a set are no hits", *written(PRICED, PRICED_ENDS), *pages]) + "\n"
 
 
 if __name__ == "__main__":

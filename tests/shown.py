@@ -11,7 +11,7 @@ serves these days with the others.
 
 import json
 
-from counted import SET_MADE, token_of, with_sets, written
+from counted import SET_MADE, in_cuts, token_of, written
 
 # Rows, each as whether it lives in the end, and its item. One that dies is deleted, or written again, once its segment stands.
 # Four items, of which two have one price and one has none, and two that are deleted.
@@ -403,11 +403,7 @@ def walks(values, lives):
 
 def text():
     """The days."""
-    lines = []
-    for title, rows, cuts, finds in FOUND:
-        for ends in cuts:
-            cut = f", in segments that end at {', '.join(map(str, ends))}" if ends else ""
-            lines += [f"== {title}{cut}", *written(rows, ends), *with_sets(found(rows, finds), len(ends)), ""]
+    lines = list(in_cuts(FOUND, found))
     for title, item_text, queries in ASKED:
         lines += [f"== {title}", *asked_of(item_text, queries), ""]
     for title, values, lives in WALKED:
