@@ -7,11 +7,11 @@ use Rattle.std.specs.Char.{is_ascii_lowercase, is_ascii_digit}
 use Rattle.cat_model.specs.Text.{Text}
 use Rattle.cat_model.specs.Item.{Schema, IsSchema, Kind, kind_of, is_name_byte}
 use Rattle.cat_model.specs.Query.{Query, Primary, Sign}
-use Rattle.cat_model.specs.Faults.{Next, is_sign, begins_primary, PassesOver, ReadsTo}
+use Rattle.cat_model.specs.Faults.{Next, PassesOver, ReadsTo}
 use Rattle.cat_model.specs.Reader.{◌>>=◌, Inside, after_spaces, ends, sign_at, grouped, everything_at, leaf_at, primary_at, clause_at, gap_at, clauses_at, content_at, term_at, name_at, whole}
 use Rattle.cat_model.proofs.QueryTerms.{Yields, yields_bind, name_parts, name_all, term_fails, term_sound}
 use Rattle.cat_model.proofs.QuerySound.{everything_is}
-use Rattle.cat_model.proofs.QueryPlaces.{no_term, Move, move, too_many_stops, no_clause_stops, empty_stops, unopened_stops, unopened_end_stops, no_primary_stops, too_deep_stops, star_stops, no_field_stops, no_value_stops, no_end_stops, text_end_stops}
+use Rattle.cat_model.proofs.QueryPlaces.{begins_primary, is_sign, no_term, Move, move, too_many_stops, no_clause_stops, empty_stops, unopened_stops, unopened_end_stops, no_primary_stops, too_deep_stops, star_stops, no_field_stops, no_value_stops, no_end_stops, text_end_stops}
 
 -- where reading stops, with so many bytes left
 pub record Faulty (schema : Schema) (text : Text) (left : ℕ) : Type 0 where

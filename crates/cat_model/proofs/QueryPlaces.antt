@@ -1,6 +1,6 @@
 -- Each step from left to right is determined, so where a text stops being read is the farthest place that it is read to.
 use Rattle.std.proofs.Common.{◌≡◌, ◌≢◌, ℕ, ◌-◌, ◌+◌, ◌<◌, ◌≤◌, List, [], ◌∷◌, ◌++◌, length, drop, Result, Ok, Err, Option, Some, None, Bool, true, false, true≢false, nat_eq, eqb, ltb, leb, cond, codes, ◌||◌, ◌&&◌, ◌⊎◌, inl, inr, refl, sym, ap, subst, ◌∙◌, append_assoc, arith, length-append}
-use Rattle.std.specs.Prelude.{IsTrue, not, find}
+use Rattle.std.specs.Prelude.{IsTrue, not, find, ◌==◌}
 use Rattle.std.proofs.lemmas.Bool.{ne_eqb, eqb-true, or_cases, or_parts, and_parts, lt-ltb, not-true, false_from_ne_true}
 use Rattle.std.proofs.lemmas.Slice.Eq.{bytes_eq-Decides}
 use Rattle.std.specs.List.{AllByRecursion, starts_with, list_all}
@@ -9,7 +9,7 @@ use Rattle.cat_model.specs.Text.{Text, same_text}
 use Rattle.cat_model.specs.Item.{Schema, Field, IsSchema, Kind, kind_of, is_field_name, has_name_form, is_name_byte}
 use Rattle.cat_model.specs.Query.{Primary}
 use Rattle.cat_model.specs.Grammar.{Asks, Means}
-use Rattle.cat_model.specs.Faults.{Next, IsWhole, is_sign, begins_primary, PassesOver, ReadsTo}
+use Rattle.cat_model.specs.Faults.{Next, IsWhole, PassesOver, ReadsTo}
 use Rattle.cat_model.specs.Reader.{term_at, value_at, name_at, behind_name}
 use Rattle.cat_model.proofs.QueryValues.{map_some, chosen, differs}
 use Rattle.cat_model.proofs.QueryTerms.{NoValue, option_cases, name_is, name_parts, behind_is, term_no_field, value_of, value_of_complete, value_of_none}
@@ -60,6 +60,14 @@ pub no_term : (schema : Schema) → IsSchema schema → (b : ℕ) (bs : Text) �
 no_term schema ok b bs e = term_no_field schema (b ∷ bs) (no_name schema ok b bs e)
 
 -- ---- steps as a function
+
+-- `+` or `-`
+abbrev pub is_sign : ℕ → Bool
+is_sign b = b == 43 || b == 45
+
+-- `(`, `*` or a lower letter
+abbrev pub begins_primary : ℕ → Bool
+begins_primary b = b == 40 || b == 42 || is_ascii_lowercase b
 
 -- what comes next in the rest of a text, if it goes on
 pub data Move : Type 0 where

@@ -9,7 +9,7 @@ use Rattle.cat_model.specs.Text.{Text}
 use Rattle.cat_model.specs.Item.{Schema, Kind, kind_of, is_name_byte}
 use Rattle.cat_model.specs.Query.{Primary}
 use Rattle.cat_model.specs.Words.{words, lowered, is_word_byte}
-use Rattle.cat_model.specs.Grammar.{Asks, value_from, AreDigits, IsInteger, below, IsBound, Means, clauses_in, depth_in}
+use Rattle.cat_model.specs.Grammar.{Asks, value_from, AreSome, IsInteger, below, IsBound, Means, clauses_in, depth_in}
 use Rattle.cat_model.specs.Faults.{IsWhole}
 use Rattle.cat_model.specs.Reader.{◌>>=◌, or_fault, only_word, are_digits, integer_of, bound_of, meaning, value_at, name_at, behind_name, colon_at, term_at}
 use Rattle.cat_model.proofs.QueryValues.{chosen, if_some, some_is, map_some, and_then_some, Stops, run_len, run_all, run_stops, value_sound, whole_complete}
@@ -26,13 +26,13 @@ all_pass p (b ∷ t) all = and_from (p b) (list_all p t) all.0 (all_pass p t all
 
 -- ---- integers
 
-digits_sound : (t : Text) → are_digits t ≡ true → AreDigits t
+digits_sound : (t : Text) → are_digits t ≡ true → AreSome is_ascii_digit t
 digits_sound t e =
     let x = and_parts (ltb 0 (length t)) (list_all is_ascii_digit t) e in
     let some : 0 < length t = ltb-true 0 (length t) x.0 in
     (λ h. let none : length t ≡ 0 = ap length h in absurd (omega arith), all_passed is_ascii_digit t x.1)
 
-digits_complete : (t : Text) → AreDigits t → are_digits t ≡ true
+digits_complete : (t : Text) → AreSome is_ascii_digit t → are_digits t ≡ true
 digits_complete [] d = absurd (d.0 refl)
 digits_complete (b ∷ t) d = and_from (ltb 0 (length (b ∷ t))) (list_all is_ascii_digit (b ∷ t)) (lt-ltb 0 (length (b ∷ t)) (omega arith)) (all_pass is_ascii_digit (b ∷ t) d.1)
 

@@ -7,7 +7,7 @@ use Rattle.std.specs.Prelude.{option_and_then, option_map, nat_eq, not}
 use Rattle.std.proofs.lemmas.Slice.Eq.{bytes_eq-Decides}
 use Rattle.std.specs.List.{AllByRecursion, prefix_len, starts_with}
 use Rattle.cat_model.specs.Text.{Text}
-use Rattle.cat_model.specs.Grammar.{is_bare_byte, Quotes, IsBare, IsEnd, Asks, IsValue}
+use Rattle.cat_model.specs.Grammar.{is_bare_byte, Quotes, AreSome, IsEnd, Asks, IsValue}
 use Rattle.cat_model.specs.Faults.{CutsValue, IsWhole}
 use Rattle.cat_model.specs.Reader.{with_byte, quoted_at, run_at, starred, bare_at, closed_end_at, end_at, to_at, bracket_at, high_at, range_at, value_at}
 
@@ -143,7 +143,7 @@ guard_some false x y e = (refl, cc)
 -- a bare text that doesn't go on
 pub record Run (text s rest : Text) : Type 0 where
   pub parts : text ≡ s ++ rest
-  pub is_bare : IsBare s
+  pub is_bare : AreSome is_bare_byte s
   pub stops : Stops is_bare_byte rest
 
 run_sound : (text s rest : Text) → run_at text ≡ Some (s, rest) → Run text s rest
@@ -154,14 +154,14 @@ run_sound text s rest e =
     let rest-is : drop n text ≡ rest = ap (λ (q : Text × Text). q.1) g.1 in
     record {
       parts = sym (take-append-drop n text) ∙ ap (λ (x : Text). x ++ drop n text) s-is ∙ ap (λ (x : Text). s ++ x) rest-is;
-      is_bare = subst (λ (x : Text). IsBare x) s-is (nonempty_run is_bare_byte text g.0, run_all is_bare_byte text);
+      is_bare = subst (λ (x : Text). AreSome is_bare_byte x) s-is (nonempty_run is_bare_byte text g.0, run_all is_bare_byte text);
       stops = subst (λ (x : Text). Stops is_bare_byte x) rest-is (run_stops is_bare_byte text);
     }
 
 run_with : (text : Text) (n : ℕ) → prefix_len is_bare_byte text ≡ n → n ≢ 0 → run_at text ≡ Some (take n text, drop n text)
 run_with text n e ne = rw (e, ne_eqb n 0 ne) refl
 
-run_is : (t rest : Text) → IsBare t → Stops is_bare_byte rest → run_at (t ++ rest) ≡ Some (t, rest)
+run_is : (t rest : Text) → AreSome is_bare_byte t → Stops is_bare_byte rest → run_at (t ++ rest) ≡ Some (t, rest)
 run_is t rest b stops =
     run_with (t ++ rest) (length t) (run_len is_bare_byte t rest b.1 stops) (λ z. b.0 (nil_from_length t z))
     ∙ rw (take_at t rest (length t) refl, drop_at t rest (length t) refl) refl
@@ -169,7 +169,7 @@ run_is t rest b stops =
 cuts : (b : ℕ) → is_bare_byte b ≡ false → eqb b 42 ≡ false → (not (is_bare_byte b) && not (eqb b 42)) ≡ true
 cuts b x y = rw (x, y) refl
 
-starred_sound : (name after : Text) (a : Asks) (rest : Text) → IsBare name → Stops is_bare_byte after → starred name after ≡ (a, rest) → (t : Text) × (name ++ after ≡ t ++ rest) × IsWhole t rest a
+starred_sound : (name after : Text) (a : Asks) (rest : Text) → AreSome is_bare_byte name → Stops is_bare_byte after → starred name after ≡ (a, rest) → (t : Text) × (name ++ after ≡ t ++ rest) × IsWhole t rest a
 starred_sound name [] a rest b stops e =
     (name, ap (λ (q : Asks × Text). name ++ q.1) e, subst (λ (q : Asks × Text). IsWhole name q.1 q.0) e (IsWhole.cut name [] (Asks.is name) (IsValue.bare name b) tt))
 starred_sound name (c ∷ cs) a rest b stops e =
@@ -301,7 +301,7 @@ whole_value (IsWhole.shut t rest b a v c) = v
 
 -- ---- what is written so is read
 
-closed_end_first : (t rest : Text) → IsBare t → end_at (t ++ rest) ≡ option_map (λ (x : Text × Text). (Some x.0, x.1)) (run_at (t ++ rest))
+closed_end_first : (t rest : Text) → AreSome is_bare_byte t → end_at (t ++ rest) ≡ option_map (λ (x : Text × Text). (Some x.0, x.1)) (run_at (t ++ rest))
 unfolding end_at
 closed_end_first [] rest b = absurd (b.0 refl)
 closed_end_first (c ∷ t) rest b =
@@ -321,7 +321,7 @@ range_complete t u low high rest a b =
     let regrouped : (t ++ (32 ∷ 84 ∷ 79 ∷ 32 ∷ (u ++ 93 ∷ []))) ++ rest ≡ t ++ (32 ∷ 84 ∷ 79 ∷ 32 ∷ (u ++ (93 ∷ rest))) = simp append_assoc in
     ap range_at regrouped ∙ rw (end_complete (32 ∷ 84 ∷ 79 ∷ 32 ∷ (u ++ (93 ∷ rest))) refl a, end_complete (93 ∷ rest) refl b) refl
 
-bare_first : (t rest : Text) → IsBare t → value_at (t ++ rest) ≡ bare_at (t ++ rest)
+bare_first : (t rest : Text) → AreSome is_bare_byte t → value_at (t ++ rest) ≡ bare_at (t ++ rest)
 unfolding value_at
 bare_first [] rest b = absurd (b.0 refl)
 bare_first (c ∷ t) rest b =
@@ -329,7 +329,7 @@ bare_first (c ∷ t) rest b =
     let none : eqb c 91 ≡ false = differs is_bare_byte c 91 b.1.0 refl in
     rw (no, none) refl
 
-bare_is : (t rest : Text) → IsBare t → Stops is_bare_byte rest → bare_at (t ++ rest) ≡ Some (starred t rest)
+bare_is : (t rest : Text) → AreSome is_bare_byte t → Stops is_bare_byte rest → bare_at (t ++ rest) ≡ Some (starred t rest)
 bare_is t rest b stops = ap (option_map (λ (x : Text × Text). starred x.0 x.1)) (run_is t rest b stops)
 
 -- both parts of what cuts a value
@@ -347,7 +347,7 @@ cuts-starred t [] c = refl
 cuts-starred t (b ∷ bs) c = let p = (cut_parts (is_bare_byte b) (eqb b 42) c).1 in rw p refl
 
 -- only a bare text asks for something behind it
-value_complete : {t : Text} {a : Asks} (rest : Text) → (IsBare t → CutsValue rest) → IsValue t a → value_at (t ++ rest) ≡ Some (a, rest)
+value_complete : {t : Text} {a : Asks} (rest : Text) → (AreSome is_bare_byte t → CutsValue rest) → IsValue t a → value_at (t ++ rest) ≡ Some (a, rest)
 unfolding value_at
 value_complete rest c (IsValue.quoted t s q) = rw (quoted_complete rest q) refl
 value_complete rest c (IsValue.bare t b) = bare_first t rest b ∙ bare_is t rest b (cuts-stop rest (c b)) ∙ ap (λ (x : Asks × Text). Some x) (cuts-starred t rest (c b))

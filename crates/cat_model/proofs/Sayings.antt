@@ -18,7 +18,10 @@ use Rattle.cat_model.specs.Table.{Opened}
 use Rattle.cat_model.specs.Lines.{Said, spaced, spelling, sort_text, mark_text, chore_name, HasForm, IsNumber, IsSort, SpellsLine, ShowsSession}
 use Rattle.cat_model.specs.Run.{Chore, Command}
 use Rattle.cat_model.specs.Heard.{Json, Heard, Hears, IsCommand, IsQueryOf}
-use Rattle.cat_model.specs.Served.{Begins, OpensEmpty, Outcome, heard, HeardAll}
+use Rattle.cat_model.specs.Files.{Name}
+use Rattle.cat_model.specs.Served.{Begins, Outcome, heard, HeardAll}
+use Rattle.cat_model.specs.Told.{ToldByName}
+use Rattle.cat_model.specs.Opens.{BeginsFrom, OpensFrom}
 use Rattle.cat_model.specs.Laws.{LinesSayOneThing, SchemaLinesSayOneThing, EachTextIsAQueryOrNone, HearingIsOne, ReadsSchemas, InputsAreHeardOneWay}
 use Rattle.cat_model.proofs.QueryFaults.{lower_name}
 use Rattle.cat_model.proofs.QueryLaws.{one_query, place_is_one, texts_are_judged, no_fault}
@@ -358,22 +361,41 @@ lines_heard json schema (line ∷ lines) (s ∷ one) (t ∷ two) ok a b =
     let rest = lines_heard json schema lines one two ok a.1 b.1 in
     λ i. here i ∷ rest i
 
--- a first line opens a service without items in one way
-one_opening : (json : Json) (line : Text) (one two : Opened) → Begins json OpensEmpty line (Ok one) → Begins json OpensEmpty line (Ok two) → one ≡ two
-one_opening json line one two (Begins.opened f l text schema r readable a is opens) (Begins.opened g k text' schema' r' readable' b is' opens') =
-    let texts = one_schema line f l g k text text' a b in
-    let same : schema ≡ schema' = ok_value (sym is ∙ ap json.schema_of texts.2 ∙ is') in
-    opens ∙ ap (λ s. record { start = record { schema = s; records = []; token = 0 }; commit = None }) same ∙ sym opens'
-  where
-    ok_value : ◌≡◌ {A = Result Schema Refusal} (Ok schema) (Ok schema') → schema ≡ schema'
-    ok_value e = cc e
+-- ---- how a service begins
 
--- and under a schema
-under_schema : (json : Json) (line : Text) (from : Opened) → ReadsSchemas json → Begins json OpensEmpty line (Ok from) → IsSchema from.start.schema
-under_schema json line from reads (Begins.opened f l text schema r readable a is opens) = subst (λ o. IsSchema o.start.schema) (sym opens) (reads text schema is)
+-- it begins under the schema that its first line spells
+opened_under : (told : ToldByName) (schema : Schema) (from : Opened) → OpensFrom told schema (Ok from) → from.start.schema ≡ schema
+opened_under told schema from (inl b) = b.fields
+opened_under told schema from (inr e) = ap (λ o. o.start.schema) e.1
+
+-- where no file is, it begins with nothing
+opened_empty : (told : ToldByName) → ((q : Name) → told q ≡ Some None) → (schema : Schema) (from : Opened) → OpensFrom told schema (Ok from)
+    → from ≡ record { start = record { schema = schema; records = []; token = 0 }; commit = None }
+opened_empty told none schema from (inl b) = absurd (b.newest.there (none (Name.commit b.generation)))
+opened_empty told none schema from (inr e) = e.1
+
+module _ (json : Json) (reads : ReadsSchemas json) (told₁ told₂ : ToldByName) (first : Text) (lines : List Text) (from₁ from₂ : Opened) (tolds₁ tolds₂ : List Outcome) where
+  abbrev Heard_so : Type 0
+  Heard_so =
+      (from₁.start.schema ≡ from₂.start.schema) × (map heard tolds₁ ≡ map heard tolds₂)
+      × (((q : Name) → told₁ q ≡ Some None) → ((q : Name) → told₂ q ≡ Some None) → from₁ ≡ from₂)
+
+  one_beginning : BeginsFrom json told₁ first (Ok from₁) → BeginsFrom json told₂ first (Ok from₂)
+      → HeardAll json from₁.start.schema lines tolds₁ → HeardAll json from₂.start.schema lines tolds₂ → Heard_so
+  one_beginning (Begins.opened f l text schema r readable a is opens) (Begins.opened g k text' schema' r' readable' b is' opens') one two =
+      let texts = one_schema first f l g k text text' a b in
+      let same : schema ≡ schema' = ok_value (sym is ∙ ap json.schema_of texts.2 ∙ is') in
+      let under₁ : from₁.start.schema ≡ schema' = opened_under told₁ schema from₁ opens ∙ same in
+      let under₂ : from₂.start.schema ≡ schema' = opened_under told₂ schema' from₂ opens' in (
+        under₁ ∙ sym under₂,
+        lines_heard json schema' lines tolds₁ tolds₂ (reads text' schema' is') (subst (λ s. HeardAll json s lines tolds₁) under₁ one) (subst (λ s. HeardAll json s lines tolds₂) under₂ two),
+        λ none₁ none₂.
+            opened_empty told₁ none₁ schema from₁ opens ∙ ap (λ s. record { start = record { schema = s; records = []; token = 0 }; commit = None }) same
+            ∙ sym (opened_empty told₂ none₂ schema' from₂ opens'),
+      )
+    where
+      ok_value : ◌≡◌ {A = Result Schema Refusal} (Ok schema) (Ok schema') → schema ≡ schema'
+      ok_value e = cc e
 
 pub one_way : InputsAreHeardOneWay
-one_way json first lines text text' reads one two =
-    let same = one_opening json first one.from two.from one.begins two.begins in
-    let ok = under_schema json first two.from reads two.begins in
-    (same, lines_heard json two.from.start.schema lines one.tolds two.tolds ok (subst (λ from. HeardAll json from.start.schema lines one.tolds) same one.heard_all) two.heard_all)
+one_way json reads told₁ told₂ first lines from₁ from₂ tolds₁ tolds₂ = one_beginning json reads told₁ told₂ first lines from₁ from₂ tolds₁ tolds₂

@@ -1,15 +1,15 @@
 -- The bytes of a segment's file are those of the parts that it is read into.
-use Rattle.std.proofs.Common.{◌≡◌, List, ◌∷◌, ◌++◌, map, refl, sym, ◌∙◌}
+use Rattle.std.proofs.Common.{◌≡◌, ℕ, List, ◌∷◌, ◌++◌, map, refl, sym, ◌∙◌}
 use Rattle.std.specs.Prelude.{codes, Option}
 use Rattle.std.specs.List.{flat_map}
 use Rattle.std.proofs.lemmas.List.{length-map}
 use Rattle.std.proofs.lemmas.List.Folds.{flat_map-map}
-use Rattle.cat_base.specs.Bytes.{spelled_u32, spelled_u64}
+use Rattle.cat_base.specs.Bytes.{spelled_bytes, spelled_u32, spelled_u64}
 use Rattle.cat_model.specs.Text.{Text}
 use Rattle.cat_model.specs.Item.{Content, Field, Kind, content_of, words_in, keyword_in, labels_in}
 use Rattle.cat_model.specs.Ordinals.{dictionary_of, postings_of}
-use Rattle.cat_model.specs.View.{item_in}
-use Rattle.cat_model.specs.SegmentFile.{ordinal_in, code_in, spelled_word_column, spelled_keyword_column, spelled_label_column, spelled_contents, spelled_row}
+use Rattle.cat_model.specs.View.{Row, item_in}
+use Rattle.cat_model.specs.SegmentFile.{ordinal_in, code_in, spelled_word_column, spelled_keyword_column, spelled_label_column, spelled_contents}
 use Rattle.cat_model.specs.Layout.{spelled_fields, spelled_list, spelled_texts, WordPostings, Laid, keywords_of, word_postings_of, laid_as, column_of, head_of, spelled_head, spelled_postings, spelled_column}
 use Rattle.cat_model.specs.SegmentLaws.{SegmentsAreSpelledAsLaid}
 
@@ -34,8 +34,9 @@ contents_as_laid Kind.facet rows = labels_as_laid (dictionary_of (map labels_in 
 
 pub spelled_as_laid : SegmentsAreSpelledAsLaid
 spelled_as_laid s =
+    let spelled_there : Row → List ℕ = λ r. spelled_u64 r.number ++ (spelled_bytes r.id ++ spelled_u32 r.length) in
     let there : Field → List (Option Content) = λ f. map (λ r. content_of f.name (item_in r)) s.rows in
-    let rows : flat_map spelled_row s.rows ≡ flat_map spelled_head (map head_of s.rows) = sym (flat_map-map spelled_head head_of s.rows) in
+    let rows : flat_map spelled_there s.rows ≡ flat_map spelled_head (map head_of s.rows) = sym (flat_map-map spelled_head head_of s.rows) in
     let columns : flat_map (λ f. spelled_contents f.kind (there f)) s.schema ≡ flat_map spelled_column (map (column_of s.rows) s.schema) =
     (λ i. flat_map (λ f. contents_as_laid f.kind (there f) i) s.schema) ∙ sym (flat_map-map spelled_column (column_of s.rows) s.schema) in
     λ i. codes "CSEG" ++ (1 ∷ (spelled_u64 s.number ++ (spelled_u32 (sym (length-map s.rows head_of) i) ++ (spelled_fields s.schema ++ (rows i ++ columns i)))))

@@ -1,6 +1,6 @@
 -- Two services that open alike, and whose writes agree up to t, answer alike under t.
 use Rattle.std.proofs.Common.{◌≡◌, ◌≢◌, ℕ, ◌+◌, ◌-◌, ◌≤◌, ◌<◌, ◌^◌, List, [], ◌∷◌, ◌++◌, map, length, true, refl, sym, ◌∙◌, ap, subst, arith}
-use Rattle.std.specs.Prelude.{IsTrue, Ok, Err}
+use Rattle.std.specs.Prelude.{IsTrue, Err}
 use Rattle.std.specs.List.{AllByRecursion}
 use Rattle.std.specs.Fmt.{decimal}
 use Rattle.std.proofs.lemmas.List.{length-append}
@@ -15,17 +15,16 @@ use Rattle.cat_model.specs.Lines.{Said, SpellsSaid, reply_text}
 use Rattle.cat_model.specs.Run.{Command, Reply, Exchange, Run, writes, now, holds, may_refuse, IsRun}
 use Rattle.cat_model.specs.Limits.{last_number}
 use Rattle.cat_model.specs.Heard.{Json, IsCommand, id_of}
-use Rattle.cat_model.specs.Served.{Opening, Begins, outcome_text}
+use Rattle.cat_model.specs.Served.{outcome_text}
 use Rattle.cat_model.specs.Laws.{HeldRead}
-use Rattle.cat_model.specs.Talk.{Pair, Talked, IsWrite, WritesAgree, ReadsUnder, HeldAsk, excepted_replies, ReadsLines, IsShownStart, IsShownOpened, OpensAs, TalksAgree, AnswersOfAnyStartAreTalks, TalksOfOneStartAgree}
-use Rattle.cat_model.proofs.TalkOpenings.{OpensShown, OpenAlike}
+use Rattle.cat_model.specs.Talk.{Pair, IsWrite, WritesAgree, ReadsUnder, HeldAsk, excepted_replies, TalksOfOneStartAgree}
 use Rattle.cat_model.proofs.Runs.{held_reads_agree, held_low, held_writes}
 use Rattle.cat_model.proofs.Sayings.{one_command}
 use Rattle.cat_model.proofs.TalkHeard.{Entry, pair, run_of, Heeded, IsPlace, place_of, Understood, understood}
 use Rattle.cat_model.proofs.TalkHolds.{all_split, around, run_place, held_in}
 use Rattle.cat_model.proofs.TalkWrites.{Stands, writes_stand, makes_one, take_same}
 use Rattle.cat_model.proofs.TalkLines.{Shown, lines_said, reply_lines, said_lines}
-use Rattle.cat_model.proofs.TalkWhole.{ShownTold, Whole, served, whole_of, answers_are_talks}
+use Rattle.cat_model.proofs.TalkWhole.{ShownTold, Whole, whole_of}
 
 -- ---- a read
 
@@ -133,53 +132,26 @@ same_writes json one two es₁ es₂ t same heed₁ heed₂ run₁ run₂ most�
 
 -- ---- the law
 
-whole_talk : (json : Json) (opens : Opening) (talk : List Pair) → ReadsLines json → OpensShown json opens → (o : Talked json opens talk) → Whole json opens o.is_talk.first talk
-whole_talk json opens talk reads opened o =
-    let t = o.is_talk in
-    let s = served json opens o.input o.output o.lines o.answering in
-    let answered = subst (λ ls. Rattle.cat_model.specs.Served.Answered (Rattle.cat_model.specs.Served.IsServed json opens) ls o.output) t.read s.0 in
-    let lines = subst (AllByRecursion Rattle.cat_model.specs.Text.IsOneLine) t.read s.1 in
-    whole_of json opens reads opened t.first (map (λ p. p.line) talk) o.output lines.1 answered talk (record { first = t.first; opening = t.opening; one_line = t.one_line; read = refl; replies = t.replies; written = t.written })
-
-pub talks_agree : (json : Json) (opens₁ opens₂ : Opening) → ReadsLines json → OpensShown json opens₁ → OpensShown json opens₂ → TalksAgree json opens₁ opens₂ (OpenAlike json opens₁ opens₂)
-talks_agree json opens₁ opens₂ reads shown₁ shown₂ talk₁ talk₂ t s₁ s₂ text reply₁ reply₂ one two alike agree r ask₁ ask₂ =
+pub talks_of_one_start : TalksOfOneStartAgree
+talks_of_one_start json reads from₁ from₂ first₁ first₂ output₁ output₂ lines₁ lines₂ ok₁ ok₂ same cut₁ served₁ cut₂ served₂ talk₁ talk₂ is₁ is₂ t s₁ s₂ text reply₁ reply₂ agree r ask₁ ask₂ =
     let said = r.said in
-    let w₁ = whole_talk json opens₁ talk₁ reads shown₁ one in
-    let w₂ = whole_talk json opens₂ talk₂ reads shown₂ two in
-    let start₁ : IsShownStart w₁.from.start = (shown₁ one.is_talk.first w₁.from w₁.begins).start in
-    let start₂ : IsShownStart w₂.from.start = (shown₂ two.is_talk.first w₂.from w₂.begins).start in
-    let same : w₁.from.start ≡ w₂.from.start = alike w₁.from w₂.from w₁.begins w₂.begins in
-    let a₁ = asked_in json w₁.from w₁.es talk₁ t s₁ text reply₁ said start₁.token w₁.heed w₁.is_run w₁.shown w₁.is r.spells r.under ask₁ in
-    let a₂ = asked_in json w₂.from w₂.es talk₂ t s₂ text reply₂ said start₂.token w₂.heed w₂.is_run w₂.shown w₂.is r.spells r.under ask₂ in
-    let read : ReadsSo a₂.x.line.command t = reads_as json w₂.from.start.schema t said a₂.x.line.command r.under a₂.is in
+    let w₁ : Whole json from₁ talk₁ = whole_of json reads from₁ ok₁ first₁ lines₁ output₁ cut₁ served₁ talk₁ is₁ in
+    let w₂ : Whole json from₂ talk₂ = whole_of json reads from₂ ok₂ first₂ lines₂ output₂ cut₂ served₂ talk₂ is₂ in
+    let a₁ = asked_in json from₁ w₁.es talk₁ t s₁ text reply₁ said ok₁.start.token w₁.heed w₁.is_run w₁.shown w₁.is r.spells r.under ask₁ in
+    let a₂ = asked_in json from₂ w₂.es talk₂ t s₂ text reply₂ said ok₂.start.token w₂.heed w₂.is_run w₂.shown w₂.is r.spells r.under ask₂ in
+    let read : ReadsSo a₂.x.line.command t = reads_as json from₂.start.schema t said a₂.x.line.command r.under a₂.is in
     let commands : a₁.x.line.command ≡ a₂.x.line.command =
-    one_command json w₂.from.start.schema said a₁.x.line.command a₂.x.line.command start₂.schema (subst (λ s. IsCommand json s.schema said a₁.x.line.command) same a₁.is) a₂.is in
-    let held₁ = held_read json w₁.from w₁.es t s₁ reply₁ said read.asked w₁.is_run a₁ (commands ∙ read.command) in
-    let held₂ = held_read json w₂.from w₂.es t s₂ reply₂ said read.asked w₂.is_run a₂ read.command in
-    let up : writes_up_to w₁.from.start (writes (run_of w₁.es)) t ≡ writes_up_to w₂.from.start (writes (run_of w₂.es)) t =
-    same_writes json w₁.from w₂.from w₁.es w₂.es t same w₁.heed w₂.heed w₁.is_run w₂.is_run
-    (enough w₁.from (run_of w₁.es) t read.asked a₁.x.reply held₁) (enough w₂.from (run_of w₂.es) t read.asked a₂.x.reply held₂)
+    one_command json from₂.start.schema said a₁.x.line.command a₂.x.line.command ok₂.start.schema (subst (λ s. IsCommand json s.schema said a₁.x.line.command) same a₁.is) a₂.is in
+    let held₁ = held_read json from₁ w₁.es t s₁ reply₁ said read.asked w₁.is_run a₁ (commands ∙ read.command) in
+    let held₂ = held_read json from₂ w₂.es t s₂ reply₂ said read.asked w₂.is_run a₂ read.command in
+    let up : writes_up_to from₁.start (writes (run_of w₁.es)) t ≡ writes_up_to from₂.start (writes (run_of w₂.es)) t =
+    same_writes json from₁ from₂ w₁.es w₂.es t same w₁.heed w₂.heed w₁.is_run w₂.is_run
+    (enough from₁ (run_of w₁.es) t read.asked a₁.x.reply held₁) (enough from₂ (run_of w₂.es) t read.asked a₂.x.reply held₂)
     (subst (λ ps. WritesAgree t ps (map pair w₂.es)) w₁.is (subst (WritesAgree t talk₁) w₂.is agree)) in
-    let replies : a₁.x.reply ≡ a₂.x.reply = held_reads_agree w₁.from w₂.from (run_of w₁.es) (run_of w₂.es) t read.asked a₁.x.reply a₂.x.reply same up held₁ held₂ in
+    let replies : a₁.x.reply ≡ a₂.x.reply = held_reads_agree from₁ from₂ (run_of w₁.es) (run_of w₂.es) t read.asked a₁.x.reply a₂.x.reply same up held₁ held₂ in
     record {
       lines = lines_said a₁.x.reply;
       cut = said_lines a₁.x.reply a₁.shown;
       one = a₁.text ∙ reply_lines s₁ a₁.x.reply;
       two = a₂.text ∙ ap (reply_text s₂) (sym replies) ∙ reply_lines s₂ a₁.x.reply;
     }
-
--- ---- whatever is opened
-
-opens_as : (json : Json) (from : Opened) (first : Text) (opened : Opened) → Begins json (OpensAs from) first (Ok opened) → opened ≡ from
-opens_as json from first opened (Begins.opened f l text schema r readable a is opens) = opens.0
-
-pub opens_shown : (json : Json) (from : Opened) → IsShownOpened from → OpensShown json (OpensAs from)
-opens_shown json from ok first opened b = subst IsShownOpened (sym (opens_as json from first opened b)) ok
-
-pub answers_of_any_start : AnswersOfAnyStartAreTalks
-answers_of_any_start json from reads ok = answers_are_talks json (OpensAs from) reads (opens_shown json from ok)
-
-pub talks_of_one_start : TalksOfOneStartAgree
-talks_of_one_start json from₁ from₂ reads ok₁ ok₂ same talk₁ talk₂ t s₁ s₂ text reply₁ reply₂ one two alike =
-    talks_agree json (OpensAs from₁) (OpensAs from₂) reads (opens_shown json from₁ ok₁) (opens_shown json from₂ ok₂) talk₁ talk₂ t s₁ s₂ text reply₁ reply₂ one two
-    (λ opened₁ opened₂ b₁ b₂. ap (λ o. o.start) (opens_as json from₁ one.is_talk.first opened₁ b₁) ∙ same ∙ ap (λ o. o.start) (sym (opens_as json from₂ two.is_talk.first opened₂ b₂)))

@@ -1,11 +1,10 @@
 -- What a service wrote is one talk, which shows its run.
-use Rattle.std.proofs.Common.{inl, inr, ◌≡◌, ◌≢◌, ℕ, List, [], ◌∷◌, ◌++◌, map, refl, sym, ◌∙◌, ap, subst, append_assoc, append-nil, arith, codes}
-use Rattle.std.specs.Prelude.{Option, None, Some, Result, Ok, option_to_list}
+use Rattle.std.proofs.Common.{inl, inr, ◌≡◌, ◌≢◌, ℕ, List, [], ◌∷◌, ◌++◌, map, refl, sym, ◌∙◌, ap, subst, append_assoc, arith, codes}
+use Rattle.std.specs.Prelude.{Option, None, Some, Result, Ok, filter_map, option_to_list}
 use Rattle.cat_base.specs.declared.refusal.Refusal.{Refusal}
 use Rattle.std.specs.List.{flat_map, cons_option, AllByRecursion}
 use Rattle.std.specs.Option.{option_map_or}
 use Rattle.std.specs.Fmt.{decimal}
-use Rattle.std.proofs.lemmas.List.{append_cancel_right}
 use Rattle.cat_model.specs.Text.{Text, IsOneLine}
 use Rattle.cat_model.specs.Item.{Schema, IsSchema}
 use Rattle.cat_model.specs.Write.{Write}
@@ -13,10 +12,10 @@ use Rattle.cat_model.specs.Table.{Opened, CommitText}
 use Rattle.cat_model.specs.Lines.{Said, spaced, spelling, line_text}
 use Rattle.cat_model.specs.Run.{Command, Answer, Reply, Exchange, Run, accepted, accepted_by, writes, commit_by, commits, Fits, FitsFrom, IsRun}
 use Rattle.cat_model.specs.Heard.{Json, Hears, IsCommand, commit_text_of}
-use Rattle.cat_model.specs.Input.{lines_of, ended_lines}
-use Rattle.cat_model.specs.Served.{Opening, Begins, Outcome, heard, exchange, outcome_text, NamesFiles, TellsFiles, IsServed, Answered}
-use Rattle.cat_model.specs.Talk.{Pair, IsReply, IsTalk, Answering, ReadsLines, HasShownText, IsShownOpened, AnswersAreTalks}
-use Rattle.cat_model.proofs.TalkOpenings.{OpensShown}
+use Rattle.cat_model.specs.Served.{Outcome, heard, exchange, outcome_text, NamesFiles, TellsFiles}
+use Rattle.cat_model.specs.Told.{DirectoryKind, TellsAlways}
+use Rattle.cat_model.specs.Serving.{IsServedIn}
+use Rattle.cat_model.specs.Talk.{Pair, IsReply, IsTalk, ReadsLines, HasShownText, IsShownOpened, AreAnswered, AnswersOfAnyStartAreTalks}
 use Rattle.cat_model.proofs.Lists.{All-both}
 use Rattle.cat_model.proofs.Runs.{writes-push}
 use Rattle.cat_model.proofs.TalkCuts.{same_line, talks_same}
@@ -27,7 +26,6 @@ use Rattle.cat_model.proofs.TalkLines.{Shown, is_reply, unreadable_is_reply}
 use Rattle.cat_model.proofs.Commits.{commits-push}
 use Rattle.cat_model.proofs.TalkShown.{ShownRecord, ShownWrite, ShownText, text_line, reply_shown, formless_shown}
 use Rattle.cat_model.proofs.TalkHolds.{all_split}
-use Rattle.cat_model.proofs.TalkInput.{ended_are_lines, lines_are_lines}
 
 -- what was told is shown in lines
 abbrev pub ShownTold : Outcome → Type 0
@@ -150,23 +148,12 @@ module _ (json : Json) (from : Opened) (reads : ReadsLines json) (sound : IsSche
 -- ---- the whole
 
 -- the entries that a talk is of
-pub record Whole (json : Json) (opens : Opening) (first : Text) (talk : List Pair) : Type 0 where
-  pub from : Opened
-  pub begins : Begins json opens first (Ok from)
+pub record Whole (json : Json) (from : Opened) (talk : List Pair) : Type 0 where
   pub es : List Entry
   pub heed : Heeded json from.start.schema es
   pub is_run : IsRun from (run_of es)
   pub shown : AllByRecursion (λ e. ShownTold e.told) es
   pub is : talk ≡ map pair es
-
--- what answers lines is served
-pub served : (json : Json) (opens : Opening) (input output : Text) (lines : List Text) → Answering json opens input output lines → Answered (IsServed json opens) lines output × AllByRecursion IsOneLine lines
-served json opens input output _ (Answering.to_the_end s) =
-    let same : input ≡ s.0 = s.1 ∙ append-nil s.0 in
-    (subst (λ bytes. Answered (IsServed json opens) (lines_of bytes) output) (sym same) (subst (Answered (IsServed json opens) (lines_of s.0)) (sym s.5) s.4), lines_are_lines input)
-served json opens input output _ (Answering.to_a_fault left s) =
-    let same : input ≡ s.0 = append_cancel_right input s.0 left s.1 in
-    (subst (λ bytes. Answered (IsServed json opens) (ended_lines bytes) output) (sym same) (subst (Answered (IsServed json opens) (ended_lines s.0)) (sym s.4) s.3), ended_are_lines input)
 
 lines_kept : (ls : List Text) (ts : List Outcome) → AllByRecursion IsOneLine ls → AllByRecursion (λ e. IsOneLine e.line) (entries ls ts)
 lines_kept [] ts a = tt
@@ -184,30 +171,29 @@ greeting t = (λ e. omega (arith, e), (λ e. omega (arith, e), (λ e. omega (ari
 greeted : (t : ℕ) (rest : Text) → line_text (codes "OK" ∷ decimal t ∷ []) ++ rest ≡ (codes "OK" ++ 32 ∷ decimal t) ++ 10 ∷ rest
 greeted t rest = append_assoc (codes "OK" ++ 32 ∷ decimal t) (10 ∷ []) rest
 
-module _ (json : Json) (opens : Opening) (reads : ReadsLines json) (opened : OpensShown json opens) (first : Text) (lines : List Text) (output : Text) (cut : AllByRecursion IsOneLine lines) (s : IsServed json opens first lines output) where
+module _ (json : Json) (reads : ReadsLines json) (from : Opened) (o : IsShownOpened from) (first : Text) (lines : List Text) (output : Text) (cut : AllByRecursion IsOneLine lines) (s : AreAnswered json from lines output) where
   abbrev all : List Entry
   all = entries lines s.tolds
 
-  all_heed : Heeded json s.from.start.schema all
-  all_heed = heeded json s.from.start.schema lines s.tolds s.heard_all
+  all_heed : Heeded json from.start.schema all
+  all_heed = heeded json from.start.schema lines s.tolds s.heard_all
 
-  all_run : IsRun s.from (run_of all)
-  all_run = subst (IsRun s.from) (sym (entries_run json s.from.start.schema lines s.tolds s.heard_all)) s.is_run
+  all_run : IsRun from (run_of all)
+  all_run = subst (IsRun from) (sym (entries_run json from.start.schema lines s.tolds s.heard_all)) s.is_run
 
   all_shown : AllByRecursion (λ e. ShownTold e.told) all
   all_shown =
-      let o : IsShownOpened s.from = opened first s.from s.begins in
-      entries_shown json s.from reads o.start.schema o.start.records [] all all_heed (lines_kept lines s.tolds cut) (told_kept lines s.tolds s.files) all_run tt (opened_texts s.from o.commit)
+      entries_shown json from reads o.start.schema o.start.records [] all all_heed (lines_kept lines s.tolds cut) (told_kept lines s.tolds s.files) all_run tt (opened_texts from o.commit)
 
-  written : output ≡ (codes "OK" ++ 32 ∷ decimal s.from.start.token) ++ 10 ∷ flat_map (λ p. p.reply) (map pair all)
-  written = s.whole ∙ greeted s.from.start.token (flat_map outcome_text s.tolds) ∙ ap (λ r. (codes "OK" ++ 32 ∷ decimal s.from.start.token) ++ 10 ∷ r) (sym (entries_replies json s.from.start.schema lines s.tolds s.heard_all))
+  written : output ≡ (codes "OK" ++ 32 ∷ decimal from.start.token) ++ 10 ∷ flat_map (λ p. p.reply) (map pair all)
+  written = s.whole ∙ greeted from.start.token (flat_map outcome_text s.tolds) ∙ ap (λ r. (codes "OK" ++ 32 ∷ decimal from.start.token) ++ 10 ∷ r) (sym (entries_replies json from.start.schema lines s.tolds s.heard_all))
 
   pub the_talk : IsTalk (first ∷ lines) output (map pair all)
   the_talk = record {
     first = first;
-    opening = codes "OK" ++ 32 ∷ decimal s.from.start.token;
-    one_line = greeting s.from.start.token;
-    read = ap (λ ls. first ∷ ls) (sym (entries_lines json s.from.start.schema lines s.tolds s.heard_all));
+    opening = codes "OK" ++ 32 ∷ decimal from.start.token;
+    one_line = greeting from.start.token;
+    read = ap (λ ls. first ∷ ls) (sym (entries_lines json from.start.schema lines s.tolds s.heard_all));
     replies = replies_of all all_shown;
     written = written;
   }
@@ -215,14 +201,24 @@ module _ (json : Json) (opens : Opening) (reads : ReadsLines json) (opened : Ope
   pub one_talk : (other : List Pair) → IsTalk (first ∷ lines) output other → other ≡ map pair all
   one_talk other t =
       let replies : flat_map (λ p. p.reply) other ≡ flat_map (λ p. p.reply) (map pair all) =
-      (same_line t.opening (codes "OK" ++ 32 ∷ decimal s.from.start.token) (flat_map (λ p. p.reply) other) (flat_map (λ p. p.reply) (map pair all)) t.one_line (greeting s.from.start.token) (sym t.written ∙ written)).1 in
+      (same_line t.opening (codes "OK" ++ 32 ∷ decimal from.start.token) (flat_map (λ p. p.reply) other) (flat_map (λ p. p.reply) (map pair all)) t.one_line (greeting from.start.token) (sym t.written ∙ written)).1 in
       let read : lines ≡ map (λ p. p.line) other = cc (t.read) in
-      talks_same other (map pair all) t.replies (replies_of all all_shown) (sym read ∙ sym (entries_lines json s.from.start.schema lines s.tolds s.heard_all)) replies
+      talks_same other (map pair all) t.replies (replies_of all all_shown) (sym read ∙ sym (entries_lines json from.start.schema lines s.tolds s.heard_all)) replies
 
-  pub whole_of : (other : List Pair) → IsTalk (first ∷ lines) output other → Whole json opens first other
-  whole_of other t = record { from = s.from; begins = s.begins; es = all; heed = all_heed; is_run = all_run; shown = all_shown; is = one_talk other t }
+  pub whole_of : (other : List Pair) → IsTalk (first ∷ lines) output other → Whole json from other
+  whole_of other t = record { es = all; heed = all_heed; is_run = all_run; shown = all_shown; is = one_talk other t }
 
-pub answers_are_talks : (json : Json) (opens : Opening) → ReadsLines json → OpensShown json opens → AnswersAreTalks json opens
-answers_are_talks json opens reads opened input output first lines a =
-    let s = served json opens input output (first ∷ lines) a in
-    (map pair (entries lines s.0.tolds), the_talk json opens reads opened first lines output s.1.1 s.0, one_talk json opens reads opened first lines output s.1.1 s.0)
+pub answers_of_any_start : AnswersOfAnyStartAreTalks
+answers_of_any_start json reads from first output lines o cut s =
+    (map pair (entries lines s.tolds), the_talk json reads from o first lines output cut s, one_talk json reads from o first lines output cut s)
+
+-- what serving a directory says of a text comes to this, where the directory always tells of its files
+pub answered_in : (json : Json) {D : Type 0} (kind : DirectoryKind D) (device left : D) (first : Text) (lines : List Text) (text : Text) → TellsAlways kind
+    → (s : IsServedIn json kind device left first lines text) → AreAnswered json s.from lines text
+answered_in json kind device left first lines text always s = record {
+  tolds = s.tolds;
+  heard_all = s.heard_all;
+  is_run = subst (λ os. IsRun s.from (filter_map exchange os)) (sym (s.same always)) s.is_run;
+  files = s.files;
+  whole = s.whole;
+}

@@ -18,14 +18,6 @@ pub data Next : Type 0 where
   a_value : Text → Kind → ℕ → ℕ → Next
   an_end : ℕ → ℕ → Next
 
--- `+` or `-`
-abbrev pub is_sign : ℕ → Bool
-is_sign b = b == 43 || b == 45
-
--- `(`, `*` or a lower letter
-abbrev pub begins_primary : ℕ → Bool
-begins_primary b = b == 40 || b == 42 || is_ascii_lowercase b
-
 -- a bare text, or its star, doesn't go on in what follows
 abbrev pub CutsValue : Text → Type 0
 CutsValue [] = Unit {0}
@@ -37,12 +29,13 @@ pub data IsWhole : Text → Text → Asks → Type 0 where
   shut : (t rest : Text) (b : ℕ) (a : Asks) → IsValue (t ++ b ∷ []) a → IsTrue (b == 34 || b == 93 || b == 42)
       → IsWhole (t ++ b ∷ []) rest a
 
--- One step: where this comes next, and the text goes on with `taken` and then `behind`, `taken` is passed, and that comes next.
+-- One step: where this comes next, and the text goes on with `taken` and then `behind`, `taken` is passed, and that comes next. A sign is
+-- `+` or `-`, and a primary begins with `(`, `*` or a lower letter.
 pub data PassesOver (schema : Schema) : Next → (taken behind : Text) → Next → Type 0 where
   space : (behind : Text) (c g : ℕ) (new : Bool) → PassesOver schema (a_clause c g new) (32 ∷ []) behind (a_clause c g new)
-  sign : (b : ℕ) (behind : Text) (c g : ℕ) (new : Bool) → IsTrue (is_sign b) → c < clause_limit
+  sign : (b : ℕ) (behind : Text) (c g : ℕ) (new : Bool) → IsTrue (b == 43 || b == 45) → c < clause_limit
       → PassesOver schema (a_clause c g new) (b ∷ []) behind (a_primary (c + 1) g)
-  no_sign : (b : ℕ) (behind : Text) (c g : ℕ) (new : Bool) → IsTrue (begins_primary b) → c < clause_limit
+  no_sign : (b : ℕ) (behind : Text) (c g : ℕ) (new : Bool) → IsTrue (b == 40 || b == 42 || is_ascii_lowercase b) → c < clause_limit
       → PassesOver schema (a_clause c g new) [] (b ∷ behind) (a_primary (c + 1) g)
   opened : (behind : Text) (c g : ℕ) → g < depth_limit → PassesOver schema (a_primary c g) (40 ∷ []) behind (a_clause c (g + 1) true)
   everything : (behind : Text) (c g : ℕ) → PassesOver schema (a_primary c g) (42 ∷ 58 ∷ 42 ∷ []) behind (an_end c g)

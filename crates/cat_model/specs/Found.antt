@@ -1,10 +1,10 @@
 -- What is found of a call's catalogue afterwards: after a crash, or when the folder is opened again.
-use Rattle.std.specs.Prelude.{◌≡◌, ℕ, List, [], ◌∷◌, ◌++◌, filter_map, Some, None, Ok, Err}
+use Rattle.std.specs.Prelude.{◌≡◌, ℕ, ◌<◌, List, [], ◌∷◌, ◌++◌, filter_map, Some, None, Ok, Err}
 use Rattle.std.specs.List.{AllByRecursion}
 use Rattle.cat_base.specs.declared.refusal.Refusal.{Refusal}
 use Rattle.cat_model.specs.Run.{Command, Exchange, Run, commit_by, commits, committed_at, newest_commit, text_under, writes}
 use Rattle.cat_model.specs.Served.{exchange}
-use Rattle.cat_model.specs.Table.{Opened, table}
+use Rattle.cat_model.specs.Table.{CommitText, Opened, table}
 use Rattle.cat_model.specs.Talk.{HeldAsk, IsRead, IsTalk, Pair}
 use Rattle.cat_model.specs.Text.{Text}
 use Rattle.cat_model.specs.Heard.{Json}
@@ -39,6 +39,14 @@ pub record RefusedSince (run : Run) : Type 0 where
   pub refused : here.reply ≡ Err refusal
   pub none : AllByRecursion (λ x. commit_by x.line.command x.reply ≡ None) later
 
+-- It is found at a commit that is none of the run: its generation is above that of the run's newest one, if there is one. Some COMMIT was
+-- refused, but not for its text, and none was answered OK after it.
+pub record FindsRefused (from : Opened) (run : Run) (found : Opened) : Type 0 where
+  pub commit : CommitText
+  pub there : found.commit ≡ Some commit
+  pub above : (g : ℕ) → newest_commit from run ≡ Some g → g < commit.generation
+  pub since : RefusedSince run
+
 -- nothing is found, and nothing was committed
 pub record FindsNothing (from : Opened) (run : Run) (found : Opened) : Type 0 where
   pub none : newest_commit from run ≡ None
@@ -48,11 +56,11 @@ pub record FindsNothing (from : Opened) (run : Run) (found : Opened) : Type 0 wh
 -- what is found
 pub data FindsAfterwards (from : Opened) (run : Run) (found : Opened) : Type 0 where
   newest : FindsNewest from run found → FindsAfterwards from run found
-  refused : RefusedSince run → FindsAfterwards from run found
+  refused : FindsRefused from run found → FindsAfterwards from run found
   none : FindsNothing from run found → FindsAfterwards from run found
 
 -- Whatever a crash leaves of the files of a call that always tells of them: however a directory with these files is opened, it finds the
--- newest commit of the call's run; or one of a COMMIT that was refused since; or, where there is none, nothing.
+-- newest commit of the call's run; or one above it, where a COMMIT was refused since; or, where there is none, nothing.
 abbrev pub CallsAreFound : Json → {D E : Type 0} → DirectoryKind D → DirectoryKind E → Type 0
 CallsAreFound json {D} {E} kind kind₂ =
     TellsAlways kind

@@ -23,15 +23,15 @@ pub data Quotes : Text → Text → Type 0 where
   plain : (b : ℕ) (t s : Text) → b ≢ 34 → b ≢ 92 → Quotes t s → Quotes (b ∷ t) (b ∷ s)
   escaped : (c : ℕ) (t s : Text) → (c ≡ 34) ⊎ (c ≡ 92) → Quotes t s → Quotes (92 ∷ c ∷ t) (c ∷ s)
 
--- a text without quotes: one or more of these bytes
-abbrev pub IsBare : Text → Type 0
-IsBare t = (t ≢ []) × AllByRecursion (λ b. IsTrue (is_bare_byte b)) t
+-- one or more bytes that pass the test: a text without quotes is of bare bytes, and a number of digits
+abbrev pub AreSome : (ℕ → Bool) → Text → Type 0
+AreSome test t = (t ≢ []) × AllByRecursion (λ b. IsTrue (test b)) t
 
 -- end = "*" | quoted | bare
 pub data IsEnd : Text → Option Text → Type 0 where
   open_end : IsEnd (42 ∷ []) None
   quoted_end : (t s : Text) → Quotes t s → IsEnd (34 ∷ t) (Some s)
-  bare_end : (t : Text) → IsBare t → IsEnd t (Some t)
+  bare_end : (t : Text) → AreSome is_bare_byte t → IsEnd t (Some t)
 
 -- what a value asks, whatever its field
 pub data Asks : Type 0 where
@@ -42,31 +42,26 @@ pub data Asks : Type 0 where
 -- value = "[" end " TO " end "]" | quoted | bare | bare "*"
 pub data IsValue : Text → Asks → Type 0 where
   quoted : (t s : Text) → Quotes t s → IsValue (34 ∷ t) (is s)
-  bare : (t : Text) → IsBare t → IsValue t (is t)
+  bare : (t : Text) → AreSome is_bare_byte t → IsValue t (is t)
   range : (t u : Text) (low high : Option Text) → IsEnd t low → IsEnd u high
       → IsValue (91 ∷ (t ++ (32 ∷ 84 ∷ 79 ∷ 32 ∷ (u ++ 93 ∷ [])))) (between low high)
-  prefix : (t : Text) → IsBare t → IsValue (t ++ 42 ∷ []) (begins t)
+  prefix : (t : Text) → AreSome is_bare_byte t → IsValue (t ++ 42 ∷ []) (begins t)
 
 -- the number that digits are, behind those that gave n
 abbrev pub value_from : ℕ → Text → ℕ
 value_from n [] = n
 value_from n (b ∷ bs) = value_from (n * 10 + (b - 48)) bs
 
--- one or more digits
-abbrev pub AreDigits : Text → Type 0
-AreDigits t = (t ≢ []) × AllByRecursion (λ b. IsTrue (is_ascii_digit b)) t
-
 -- an optional `-` and one or more digits, in the range of an i64
 pub data IsInteger : Text → ℤ → Type 0 where
-  not_below : (t : Text) → AreDigits t → value_from 0 t < 2 ^ 63 → IsInteger t (pos (value_from 0 t))
-  below : (t : Text) → AreDigits t → value_from 0 t ≤ 2 ^ 63 → IsInteger (45 ∷ t) (neg_ℤ (pos (value_from 0 t)))
+  not_below : (t : Text) → AreSome is_ascii_digit t → value_from 0 t < 2 ^ 63 → IsInteger t (pos (value_from 0 t))
+  below : (t : Text) → AreSome is_ascii_digit t → value_from 0 t ≤ 2 ^ 63 → IsInteger (45 ∷ t) (neg_ℤ (pos (value_from 0 t)))
 
 -- the number that an end of a range is; an open end is none
 abbrev pub IsBound : Option Text → Option ℤ → Type 0
 IsBound None None = Unit {0}
-IsBound None (Some z) = ⊥
-IsBound (Some t) None = ⊥
 IsBound (Some t) (Some z) = IsInteger t z
+IsBound _ _ = ⊥
 
 -- what a value means in the field f of a kind: a constructor for each cell of the table that isn't "wrong"
 pub data Means (f : Text) : Kind → Asks → Primary → Type 0 where
@@ -96,8 +91,7 @@ mutual
   -- clause (spaces clause)*
   pub data IsSeries (schema : Schema) : Text → Query → Type 0 where
     one : (t : Text) (s : Sign) (p : Primary) → IsClause schema t s p → IsSeries schema t (Query.clause s p Query.no_clause)
-    more :
-        (t gap u : Text) (s : Sign) (p : Primary) (q : Query) → IsClause schema t s p → AreSpaces gap → gap ≢ []
+    more : (t gap u : Text) (s : Sign) (p : Primary) (q : Query) → IsClause schema t s p → AreSpaces gap → gap ≢ []
         → IsSeries schema u q → IsSeries schema (t ++ (gap ++ u)) (Query.clause s p q)
 
   -- clause = [ "+" | "-" ] primary

@@ -1,17 +1,18 @@
 -- Why each line was told what it was told, as a directory is served.
-use Rattle.std.specs.Prelude.{◌≡◌, ◌≢◌, ◌⊎◌, ℕ, ◌<◌, ◌≤◌, max, count_by, List, [], length, map, filter_map, Contains, Option, Some, None, Result, Err}
+use Rattle.std.specs.Prelude.{◌≡◌, ◌≢◌, ◌⊎◌, ℕ, ◌<◌, ◌≤◌, max, count_by, List, [], length, map, filter_map, Contains, Option, Some, None, Result}
 use Rattle.std.specs.List.{AllByRecursion}
+use Rattle.cat_base.specs.declared.refusal.Refusal.{Refusal}
+use Rattle.cat_base.specs.declared.refusal.Refusal.TheVariants.{Device}
 use Rattle.cat_model.specs.Text.{Text}
 use Rattle.cat_model.specs.Item.{Schema}
 use Rattle.cat_model.specs.Run.{Run, newest_commit}
 use Rattle.cat_model.specs.Table.{Opened}
 use Rattle.cat_model.specs.Heard.{Json}
 use Rattle.cat_model.specs.Files.{IsFileName, Name}
-use Rattle.cat_model.specs.Served.{Ending, ServesBy, SpellsSchema, exchange}
+use Rattle.cat_model.specs.Served.{Answered, Ending, Refused, ServesBy, SpellsSchema, exchange}
 use Rattle.cat_model.specs.Told.{CountsOne, DirectoryKind, FileContent, IsNewestTold, IsToldToHave, LeftByName, MayBeLeft, MayHave, TellsAlways, TellsNoCommit, ToldByName, told_of}
 use Rattle.cat_model.specs.Restored.{IsRestored, Restored}
-use Rattle.cat_model.specs.Opens.{BeginsFrom}
-use Rattle.cat_model.specs.Serving.{IsServedIn}
+use Rattle.cat_model.specs.Serving.{IsServedIn, RefusesFirst}
 use Rattle.cat_model.specs.Standings.{HaveReasons, Standing}
 
 -- ---- the numbers that come first
@@ -87,7 +88,14 @@ pub record IsCausedIn (json : Json) {D : Type 0} (kind : DirectoryKind D) (devic
   pub failures : last.failures ≡ kind.failures left
   pub taken : TellsAlways kind → HasTakenAll (kind.may_leave left) served.from (filter_map exchange served.fitting) last
 
+-- An opening that is refused counts one failure more where it is told that the device failed, which it can then; else it counts none. The
+-- first argument says whether it can.
+abbrev pub CountsRefusal : Type 0 → (old new : ℕ) → Refusal → Type 0
+CountsRefusal fails old new e = (e ≡ Device → fails × CountsOne old new) × (e ≢ Device → new ≡ old)
+
 -- What is written answers the lines that were read, and each reply has its cause.
-abbrev pub CausesIn : Json → {D : Type 0} → DirectoryKind D → (device left : D) → (input rest before after : Option Text)
+abbrev pub CausesIn : {D : Type 0} → Json → DirectoryKind D → (device left : D) → (input rest before after : Option Text)
     → Result (Unit {0}) Ending → Type 0
-CausesIn json kind device left = ServesBy (IsCausedIn json kind device left) (λ first e. BeginsFrom json (kind.bytes device) first (Err e))
+CausesIn {D = D} json kind device left =
+    ServesBy (Answered (◌≡◌ {A = D} left device) (IsCausedIn json kind device left)) (Refused (◌≡◌ {A = D} left device)
+    (λ first e. RefusesFirst json kind device left first e × CountsRefusal (kind.can_fail device) (kind.failures device) (kind.failures left) e))

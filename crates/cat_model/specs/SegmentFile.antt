@@ -8,7 +8,7 @@ use Rattle.cat_model.specs.Text.{Text, same_text}
 use Rattle.cat_model.specs.Item.{Content, Field, Kind, content_of, words_in, keyword_in, number_in, labels_in}
 use Rattle.cat_model.specs.Ordinals.{dictionary_of, postings_of, texts_of}
 use Rattle.cat_model.specs.Files.{IsFileNumber}
-use Rattle.cat_model.specs.View.{Row, Segment, IsSegment, item_in}
+use Rattle.cat_model.specs.View.{Segment, IsSegment, item_in}
 
 -- how many there are, and each
 abbrev pub spelled_each : {A : Type 0} → (A → List ℕ) → List A → List ℕ
@@ -66,15 +66,12 @@ spelled_contents Kind.facet rows = spelled_label_column (dictionary_of (map labe
 
 -- ---- the whole
 
--- the number, the id, and how long the source is
-abbrev pub spelled_row : Row → List ℕ
-spelled_row row = spelled_u64 row.number ++ (spelled_bytes row.id ++ spelled_u32 row.length)
-
--- the magic word, the version 1, the number, the number of rows, the fields, the rows, the columns in the fields' order
+-- the magic word, the version 1, the number, the number of rows, the fields, the rows, each by its number, its id and how long its source
+-- is, and the columns in the fields' order
 abbrev pub spelled_segment : Segment → List ℕ
 spelled_segment s =
     codes "CSEG" ++ (1 ∷ (spelled_u64 s.number ++ (spelled_u32 (length s.rows) ++ (spelled_each spelled_field s.schema
-    ++ (flat_map spelled_row s.rows
+    ++ (flat_map (λ r. spelled_u64 r.number ++ (spelled_bytes r.id ++ spelled_u32 r.length)) s.rows
     ++ flat_map (λ f. spelled_contents f.kind (map (λ r. content_of f.name (item_in r)) s.rows)) s.schema)))))
 
 -- the bytes are those of the segment's file, whose number a name can have

@@ -1,6 +1,6 @@
 -- What serving an input says and reads. The rules are our own.
-use Rattle.std.specs.Prelude.{◌≡◌, ℕ, ◌≤◌, ◌⊎◌, List, [], ◌∷◌, ◌++◌, codes, map, filter_map, Option, None, Some, IfSome, Result, Ok, Err}
-use Rattle.std.specs.List.{flat_map, AllByRecursion}
+use Rattle.std.specs.Prelude.{◌≡◌, ℕ, ◌≤◌, ◌⊎◌, List, [], ◌∷◌, ◌++◌, codes, map, Option, None, Some, IfSome, Result, Ok, Err}
+use Rattle.std.specs.List.{AllByRecursion}
 use Rattle.std.specs.Fmt.{decimal}
 use Rattle.std.specs.Io.KnownBytes.{Appends, Consumes, IsAtEnd}
 use Rattle.cat_base.specs.declared.refusal.Refusal.{Refusal}
@@ -11,7 +11,7 @@ use Rattle.cat_model.specs.Table.{Opened}
 use Rattle.cat_model.specs.Limits.{least_factor, greatest_factor, least_minimum, greatest_minimum}
 use Rattle.cat_model.specs.Files.{Name, IsFileName, text_of_name}
 use Rattle.cat_model.specs.Answer.{Found}
-use Rattle.cat_model.specs.Run.{Answer, Reply, Exchange, IsRun}
+use Rattle.cat_model.specs.Run.{Answer, Reply, Exchange}
 use Rattle.cat_model.specs.Lines.{spaced, IsReadable, reply_text, refusal_words, line_text, unreadable_text}
 use Rattle.cat_model.specs.Heard.{Json, Heard, Hears}
 use Rattle.cat_model.specs.Input.{ended_lines, lines_of, HaveCome}
@@ -25,6 +25,10 @@ pub record SpellsSchema (line : Text) (factor least : ℕ) (text : Text) : Type 
   pub least_low : least_minimum ≤ least
   pub least_high : least ≤ greatest_minimum
   pub spelled : line ≡ spaced (codes "SCHEMA" ∷ decimal factor ∷ decimal least ∷ text ∷ [])
+
+-- the line can be read, and has the form of a schema line: the text of its schema is looked at, which takes memory
+abbrev pub HasSchemaText : Text → Type 0
+HasSchemaText line = IsReadable line × (factor least : ℕ) × (text : Text) × SpellsSchema line factor least text
 
 -- what opening under a schema may answer
 abbrev pub Opening : Type 1
@@ -84,26 +88,16 @@ HeardAll json schema [] [] = Unit {0}
 HeardAll json schema (line ∷ lines) (told ∷ tolds) = Hears json schema line (heard told) × HeardAll json schema lines tolds
 HeardAll json schema lines tolds = ⊥
 
--- The text answers the schema line and the lines behind it: a run from the start, in which the names of files alone are told
--- as names, with the replies to unreadable lines between.
-pub record IsServed (json : Json) (opens : Opening) (first : Text) (lines : List Text) (text : Text) : Type 0 where
-  pub from : Opened
-  pub begins : Begins json opens first (Ok from)
-  pub tolds : List Outcome
-  pub heard_all : HeardAll json from.start.schema lines tolds
-  pub is_run : IsRun from (filter_map exchange tolds)
-  pub files : AllByRecursion TellsFiles tolds
-  pub whole : text ≡ line_text (codes "OK" ∷ decimal from.start.token ∷ []) ++ flat_map outcome_text tolds
+-- The text answers the lines, the first of which is the schema's. Where none has come, nothing is said and nothing was done, as the first
+-- argument says.
+abbrev pub Answered : Type 0 → (Text → List Text → Text → Type 0) → List Text → Text → Type 0
+Answered untouched served [] text = untouched × (text ≡ [])
+Answered untouched served (first ∷ lines) text = served first lines text
 
--- The text answers the lines, the first of which is the schema's. Where none has come, nothing is said.
-abbrev pub Answered : (Text → List Text → Text → Type 0) → List Text → Text → Type 0
-Answered served [] text = text ≡ []
-Answered served (first ∷ lines) text = served first lines text
-
--- the first line is refused; where memory is wanting, none need have come
-abbrev pub Refused : (Text → Refusal → Type 0) → List Text → Refusal → Type 0
-Refused refused [] e = e ≡ Memory
-Refused refused (first ∷ lines) e = (e ≡ Memory) ⊎ refused first e
+-- the first line is refused; or memory is wanting before one has come, and nothing was done
+abbrev pub Refused : Type 0 → (Text → Refusal → Type 0) → List Text → Refusal → Type 0
+Refused untouched refused [] e = untouched × (e ≡ Memory)
+Refused untouched refused (first ∷ lines) e = refused first e
 
 -- what is said where the first line is refused
 abbrev pub refused_text : Refusal → Text
@@ -125,33 +119,26 @@ pub record AppendsFront (before after : Option Text) (text : Text) : Type 0 wher
   pub went : Appends before after front
 
 -- what would have gone out: the text for the first of the lines, or a refusal's
-abbrev pub IsDue : (Text → List Text → Text → Type 0) → (Text → Refusal → Type 0) → List Text → Text → Type 0
-IsDue served refused lines text =
-    ((first others : List Text) × (first ++ others ≡ lines) × Answered served first text)
-    ⊎ ((e : Refusal) × Refused refused lines e × (text ≡ refused_text e))
+abbrev pub IsDue : (List Text → Text → Type 0) → (List Text → Refusal → Type 0) → List Text → Text → Type 0
+IsDue answered refused lines text =
+    ((first others : List Text) × (first ++ others ≡ lines) × answered first text)
+    ⊎ ((e : Refusal) × refused lines e × (text ≡ refused_text e))
 
--- What serving does, by how it ends: the reader goes from `input` to `left`, the writer from `before` to `after`. Two
--- relations say which text answers a first line and the lines behind it, and which refusals a first line may get.
-abbrev pub ServesBy :
-    (Text → List Text → Text → Type 0) → (Text → Refusal → Type 0) → (input left before after : Option Text)
+-- What serving does, by how it ends: the reader goes from `input` to `left`, the writer from `before` to `after`. Two relations say which text
+-- answers lines, the first of which is the schema's, and which refusals such lines may get.
+abbrev pub ServesBy : (List Text → Text → Type 0) → (List Text → Refusal → Type 0) → (input left before after : Option Text)
     → Result (Unit {0}) Ending → Type 0
 -- the input is at its end, and all its lines are answered
-ServesBy served refused input left before after (Ok u) =
-    (bytes : Text) × Consumes input left bytes × IsAtEnd left
-    × (text : Text) × Answered served (lines_of bytes) text × Appends before after text
+ServesBy answered refused input left before after (Ok u) =
+    (bytes : Text) × Consumes input left bytes × IsAtEnd left × (text : Text) × answered (lines_of bytes) text × Appends before after text
 -- the first line is refused, and the refusal is all that is said
-ServesBy served refused input left before after (Err Ending.schema) =
+ServesBy answered refused input left before after (Err Ending.schema) =
     (bytes : Text) × Consumes input left bytes × (lines : List Text) × HaveCome bytes left lines
-    × (e : Refusal) × Refused refused lines e × Appends before after (refused_text e)
+    × (e : Refusal) × refused lines e × Appends before after (refused_text e)
 -- the lines that had ended are answered
-ServesBy served refused input left before after (Err Ending.read) =
-    (bytes : Text) × Consumes input left bytes
-    × (text : Text) × Answered served (ended_lines bytes) text × Appends before after text
+ServesBy answered refused input left before after (Err Ending.read) =
+    (bytes : Text) × Consumes input left bytes × (text : Text) × answered (ended_lines bytes) text × Appends before after text
 -- a front of the text for the lines that had come went out
-ServesBy served refused input left before after (Err Ending.write) =
+ServesBy answered refused input left before after (Err Ending.write) =
     (bytes : Text) × Consumes input left bytes × (lines : List Text) × HaveCome bytes left lines
-    × (text : Text) × IsDue served refused lines text × AppendsFront before after text
-
--- What is written answers the lines that were read: it is the text of a run that fits them, from a service so opened.
-abbrev pub Serves : Json → Opening → (input left before after : Option Text) → Result (Unit {0}) Ending → Type 0
-Serves json opens = ServesBy (IsServed json opens) (λ first e. Begins json opens first (Err e))
+    × (text : Text) × IsDue answered refused lines text × AppendsFront before after text

@@ -2,19 +2,18 @@
 use Rattle.std.specs.Prelude.{◌≡◌, ◌⊎◌, ℕ, false, length, List, [], ◌∷◌, ◌++◌, codes, filter_map, Option, Some, IfSome, Result, Ok, Err}
 use Rattle.std.specs.List.{flat_map, AllByRecursion}
 use Rattle.std.specs.Fmt.{decimal}
-use Rattle.std.specs.Io.KnownBytes.{Consumes}
+use Rattle.cat_base.specs.declared.refusal.Refusal.{Refusal}
 use Rattle.cat_base.specs.declared.refusal.Refusal.TheVariants.{Device, Memory}
 use Rattle.cat_model.specs.Text.{Text}
 use Rattle.cat_model.specs.Query.{Query}
 use Rattle.cat_model.specs.Table.{Opened}
 use Rattle.cat_model.specs.Answer.{Found}
-use Rattle.cat_model.specs.Run.{Answer, Chore, Command, Fits, IsRun, Reply, Run, greatest, holds, view_tokens}
+use Rattle.cat_model.specs.Run.{Answer, Command, Fits, IsRun, Reply, Run, greatest, holds, view_tokens}
 use Rattle.cat_model.specs.Lines.{line_text}
 use Rattle.cat_model.specs.Heard.{Json}
 use Rattle.cat_model.specs.Files.{Name}
-use Rattle.cat_model.specs.Input.{HaveCome, ended_lines}
-use Rattle.cat_model.specs.Served.{Ending, HeardAll, Outcome, ServesBy, TellsFiles, exchange, outcome_text}
-use Rattle.cat_model.specs.Told.{DirectoryKind, FileContent, TellsAlways}
+use Rattle.cat_model.specs.Served.{Answered, Ending, HasSchemaText, HeardAll, Outcome, Refused, ServesBy, TellsFiles, exchange, outcome_text}
+use Rattle.cat_model.specs.Told.{DirectoryKind, NoMore, TellsAlways}
 use Rattle.cat_model.specs.Opens.{BeginsFrom}
 use Rattle.cat_model.specs.Promised.{LeavesPromised, SurvivesCrash}
 
@@ -64,17 +63,17 @@ WantRightly from past (e ∷ rest) =
 
 -- ---- a device that failed
 
--- Where the line was told that the device failed, it can fail, or the line is a MERGE; the line may have been unreadable.
+-- where the line was told that the device failed, it can fail; the line may have been unreadable
 abbrev pub FailsRightly : Type 0 → Outcome → Type 0
-FailsRightly fails told = IfSome (exchange told) (λ e. e.reply ≡ Err Device → fails ⊎ (e.line.command ≡ Command.chore Chore.merge))
+FailsRightly fails told = IfSome (exchange told) (λ e. e.reply ≡ Err Device → fails)
 
 -- ---- the whole
 
 -- The text answers the schema line and the lines behind it: with a run from where the directory is opened, in which the names of files
 -- alone are told as names, and no source that is told has a line feed, and the replies to unreadable lines between. Want of memory hides
--- none of the refusals that the run tells, and where the device can't fail no line but a MERGE is told that it did. Of directories that
--- don't tell of their files, the text of a stored item may be another one of its length than the one that fits; of those that do, all that
--- is told fits. The directory that is left holds what the run promises at its end, and what a crash leaves of it is found.
+-- none of the refusals that the run tells, and where the device can't fail no line is told that it did. Of directories that don't tell of
+-- their files, the text of a stored item may be another one of its length than the one that fits; of those that do, all that is told fits.
+-- The directory that is left holds what the run promises at its end, and what a crash leaves of it is found.
 pub record IsServedIn (json : Json) {D : Type 0} (kind : DirectoryKind D) (device left : D) (first : Text) (lines : List Text) (text : Text) : Type 0 where
   pub from : Opened
   pub begins : BeginsFrom json (kind.bytes device) first (Ok from)
@@ -91,20 +90,18 @@ pub record IsServedIn (json : Json) {D : Type 0} (kind : DirectoryKind D) (devic
   pub survives : TellsAlways kind → SurvivesCrash (kind.may_leave left) from (filter_map exchange fitting)
   pub whole : text ≡ line_text (codes "OK" ∷ decimal from.start.token ∷ []) ++ flat_map outcome_text tolds
 
--- What is written answers the lines that were read: it is the text of a run that fits them, from where the directory is opened; and
--- another directory is left. The reader goes from `input` to `rest`, the writer from `before` to `after`.
-abbrev pub ServesIn : Json → {D : Type 0} → DirectoryKind D → (device left : D) → (input rest before after : Option Text)
-    → Result (Unit {0}) Ending → Type 0
-ServesIn json kind device left = ServesBy (IsServedIn json kind device left) (λ first e. BeginsFrom json (kind.bytes device) first (Err e))
+-- The line opens nothing: memory to read the schema's text was wanting, or the refusal is the one that it gets over the directory. And each
+-- file is told as it was, and a crash may leave no more of it than it could have.
+abbrev pub RefusesFirst : Json → {D : Type 0} → DirectoryKind D → (device left : D) → Text → Refusal → Type 0
+RefusesFirst json kind device left first e =
+    (((e ≡ Memory) × HasSchemaText first) ⊎ BeginsFrom json (kind.bytes device) first (Err e))
+    × ((q : Name) → kind.bytes left q ≡ kind.bytes device q) × ((q : Name) → NoMore (kind.may_leave device q) (kind.may_leave left q))
 
--- Where the schema line is refused, each file is told as it was, and a crash may leave no more of it than it could have. Where a read failed
--- before any line had ended, or a write before any had come, the directory is the one that was given. The reader went from `input` to `rest`.
-abbrev pub SparesUnserved : {D : Type 0} → DirectoryKind D → (device left : D) → (input rest : Option Text) → Result (Unit {0}) Ending
-    → Type 0
-SparesUnserved kind device left input rest (Err Ending.schema) =
-    ((q : Name) → kind.bytes left q ≡ kind.bytes device q) × ((q : Name) (e : FileContent) → kind.may_leave left q e → kind.may_leave device q e)
-SparesUnserved {D = D} kind device left input rest (Err Ending.read) =
-    (read : Text) × Consumes input rest read × (ended_lines read ≡ [] → ◌≡◌ {A = D} left device)
-SparesUnserved {D = D} kind device left input rest (Err Ending.write) =
-    (read : Text) × Consumes input rest read × (lines : List Text) × HaveCome read rest lines × (lines ≡ [] → ◌≡◌ {A = D} left device)
-SparesUnserved kind device left input rest ended = Unit {0}
+-- What is written answers the lines that were read: it is the text of a run that fits them, from where the directory is opened; and
+-- another directory is left, which is the one that was given where no line is answered. The reader goes from `input` to `rest`, the writer
+-- from `before` to `after`.
+abbrev pub ServesIn : {D : Type 0} → Json → DirectoryKind D → (device left : D) → (input rest before after : Option Text)
+    → Result (Unit {0}) Ending → Type 0
+ServesIn {D = D} json kind device left =
+    ServesBy (Answered (◌≡◌ {A = D} left device) (IsServedIn json kind device left))
+    (Refused (◌≡◌ {A = D} left device) (RefusesFirst json kind device left))

@@ -3,7 +3,7 @@
 -- maintenance tells is so.
 use Rattle.std.specs.Prelude.{◌≡◌, ◌⊎◌, ℕ, ◌+◌, ◌-◌, ◌<◌, ◌≤◌, min, true, List, [], ◌∷◌, ◌++◌, length, map, sum, option_to_list, Option, Some, None, IfSome, Result, Ok, Err}
 use Rattle.cat_base.specs.declared.refusal.Refusal.{Refusal}
-use Rattle.cat_base.specs.declared.refusal.Refusal.TheVariants.{Damaged, Device, Spent}
+use Rattle.cat_base.specs.declared.refusal.Refusal.TheVariants.{Damaged, Device, Memory, Spent}
 use Rattle.cat_model.specs.Text.{IsOneLine, Text}
 use Rattle.cat_model.specs.Answer.{Read, stored}
 use Rattle.cat_model.specs.Limits.{buffer_limit, last_number, row_limit, segment_limit, step_limit}
@@ -58,10 +58,11 @@ IsSpentFor factor least s (Command.chore Chore.force) = IsToForce s × (last_num
 IsSpentFor factor least s c = Unit {0}
 
 -- A file is damaged. On directories that always tell of their files none is, so that a GET finds what was stored: but text that has a line
--- feed isn't told. A MERGE has rows left to pass. The first argument says whether directories always tell of their files.
+-- feed isn't told. A MERGE has rows left to pass, and isn't told so there. The first argument says whether directories always tell of their
+-- files.
 abbrev pub IsDamagedFor : Type 0 → Opened → Run → Standing → Command → Type 0
 IsDamagedFor always from past s (Command.read t (Read.get (Ok id))) = always → IfSome (stored (table from.start (writes past) t) id) IsOneLine → ⊥
-IsDamagedFor always from past s (Command.chore Chore.merge) = (m : Progress) × (s.merging ≡ Some m) × (m.passed < m.rows)
+IsDamagedFor always from past s (Command.chore Chore.merge) = (always → ⊥) × (m : Progress) × (s.merging ≡ Some m) × (m.passed < m.rows)
 IsDamagedFor always from past s c = Unit {0}
 
 -- ---- news
@@ -95,8 +96,8 @@ IsToldOf factor least s c reply = Unit {0}
 -- ---- from one line to the next
 
 -- What a line makes of it, whatever it is told: it takes one number of each kind at most, and makes one segment at most; nothing waits more
--- than before but an item that was accepted; a merge comes only where that was told; no failure is forgotten; and a COMMIT that was refused,
--- but not for its text, takes the generation that it tried.
+-- than before but an item that was accepted; a merge comes only where that was told; behind a SWEEP with OK no file waits to be deleted; no
+-- failure is forgotten; and a COMMIT that was refused, but not for its text, takes the generation that it tried.
 pub record MovesOn (s : Standing) (c : Command) (reply : Reply) (new : Standing) : Type 0 where
   pub segment : (s.next_segment ≤ new.next_segment) × (new.next_segment ≤ s.next_segment + 1)
   pub generation : (s.next_generation ≤ new.next_generation) × (new.next_generation ≤ s.next_generation + 1)
@@ -104,15 +105,17 @@ pub record MovesOn (s : Standing) (c : Command) (reply : Reply) (new : Standing)
   pub segments : length new.stat.segments ≤ length s.stat.segments + 1
   pub waits : new.stat.buffered ≤ s.stat.buffered + length (option_to_list (accepted_by c reply))
   pub merges : s.merging ≡ None → (new.merging ≡ None) ⊎ ((k : ℕ) × (reply ≡ Ok (Answer.news (News.begun_merge k))))
+  pub swept : (a : Answer) → c ≡ Command.chore Chore.sweep → reply ≡ Ok a → new.stat.pending ≡ 0
   pub failures : s.failures ≤ new.failures
   pub tried : (new.tried ≡ s.tried) ⊎ ((refuses_commit c reply ≡ true)
       × (new.tried ≡ s.next_generation ∷ s.tried) × (s.next_generation < new.next_generation))
 
 -- Behind its past, the exchange leads from one standing to the next: its reply has its cause and tells what is so, and the numbers of writes
--- and of recorded views are those of the run.
+-- and of recorded views are those of the run. Want of memory is told only where no failure was counted.
 pub record HasReason (always : Type 0) (factor least : ℕ) (from : Opened) (past : Run) (s : Standing) (e : Exchange) (new : Standing) : Type 0 where
   pub spent : e.reply ≡ Err Spent → IsSpentFor factor least s e.line.command
   pub counted : e.reply ≡ Err Device → CountsOne s.failures new.failures
+  pub quiet : e.reply ≡ Err Memory → new.failures ≡ s.failures
   pub damaged : e.reply ≡ Err Damaged → IsDamagedFor always from past s e.line.command
   pub told : IsToldOf factor least s e.line.command e.reply
   pub writes : s.stat.writes ≡ now from.start past

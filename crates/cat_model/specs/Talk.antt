@@ -1,16 +1,16 @@
 -- The law of held reads over bytes: what a user can check by eye in what was read and what was written. Nothing to believe
 -- of the service: the two laws are proved. The rules are our own.
-use Rattle.std.specs.Prelude.{◌≡◌, ◌≢◌, ℕ, ◌≤◌, ◌⊎◌, List, [], ◌∷◌, ◌++◌, codes, map, Contains, Option, Some, None, Ok, Err}
+use Rattle.std.specs.Prelude.{◌≡◌, ◌≢◌, ℕ, ◌≤◌, ◌⊎◌, List, [], ◌∷◌, ◌++◌, codes, map, filter_map, Contains, Option, Some, None, Ok}
 use Rattle.std.specs.List.{flat_map, AllByRecursion}
 use Rattle.std.specs.Fmt.{decimal}
 use Rattle.cat_model.specs.Text.{Text, IsOneLine}
 use Rattle.cat_model.specs.Item.{Schema, IsSchema, Content, Item}
 use Rattle.cat_model.specs.Table.{Start, Opened, CommitText}
 use Rattle.cat_model.specs.Limits.{last_number, session_limit}
+use Rattle.cat_model.specs.Run.{IsRun}
 use Rattle.cat_model.specs.Lines.{Said, SpellsSaid, line_text, unreadable_text}
 use Rattle.cat_model.specs.Heard.{Json}
-use Rattle.cat_model.specs.Input.{lines_of, ended_lines}
-use Rattle.cat_model.specs.Served.{Opening, Ending, Serves}
+use Rattle.cat_model.specs.Served.{HeardAll, Outcome, TellsFiles, exchange, outcome_text}
 
 -- ---- a talk: the lines that were read, each with the bytes that answer it
 
@@ -43,23 +43,6 @@ pub record IsTalk (lines : List Text) (output : Text) (talk : List Pair) : Type 
   pub read : lines ≡ first ∷ map (λ p. p.line) talk
   pub replies : AllByRecursion (λ p. IsReply p.reply) talk
   pub written : output ≡ opening ++ 10 ∷ flat_map (λ p. p.reply) talk
-
--- What was read and written by a service that answered these lines: all, at the end of the input; or those that had
--- ended, where a read failed.
-pub data Answering (json : Json) (opens : Opening) (input output : Text) : List Text → Type 0 where
-  to_the_end : Serves json opens (Some input) (Some []) (Some []) (Some output) (Ok tt)
-      → Answering json opens input output (lines_of input)
-  to_a_fault :
-      (left : Text) → Serves json opens (Some (input ++ left)) (Some left) (Some []) (Some output) (Err Ending.read)
-      → Answering json opens input output (ended_lines input)
-
--- the talk of a service, with its bytes
-pub record Talked (json : Json) (opens : Opening) (talk : List Pair) : Type 0 where
-  pub input : Text
-  pub output : Text
-  pub lines : List Text
-  pub answering : Answering json opens input output lines
-  pub is_talk : IsTalk lines output talk
 
 -- ---- what stands in a talk
 
@@ -130,27 +113,6 @@ pub record AreAlike (s₁ s₂ : ℕ) (reply₁ reply₂ : Text) : Type 0 where
   pub one : reply₁ ≡ flat_map (λ line. line_text (decimal s₁ ∷ line ∷ [])) lines
   pub two : reply₂ ≡ flat_map (λ line. line_text (decimal s₂ ∷ line ∷ [])) lines
 
--- ---- the laws
-
--- The bytes that answer lines are a talk, and one only.
-abbrev pub AnswersAreTalks : Json → Opening → Type 0
-AnswersAreTalks json opens =
-    (input output first : Text) (lines : List Text) → Answering json opens input output (first ∷ lines)
-    → (talk : List Pair) × IsTalk (first ∷ lines) output talk × ((other : List Pair) → IsTalk (first ∷ lines) output other → other ≡ talk)
-
--- For every two talks whose first lines are alike, and whose writes up to t have the same texts: a read under t, be it a
--- FIND, a FACETS or a GET, has the same reply in both, for sessions that hold t.
-abbrev pub TalksAgree : Json → Opening → Opening → (Text → Text → Type 0) → Type 0
-TalksAgree json opens₁ opens₂ alike =
-    (talk₁ talk₂ : List Pair) (t s₁ s₂ : ℕ) (text reply₁ reply₂ : Text)
-    → (one : Talked json opens₁ talk₁) (two : Talked json opens₂ talk₂)
-    → alike one.is_talk.first two.is_talk.first
-    → WritesAgree t talk₁ talk₂
-    → IsRead t text
-    → HeldAsk talk₁ t s₁ text reply₁
-    → HeldAsk talk₂ t s₂ text reply₂
-    → AreAlike s₁ s₂ reply₁ reply₂
-
 -- ---- what is asked of texts of items, and of what a service opens with
 
 -- no text of the content has a line feed
@@ -189,20 +151,44 @@ pub record IsShownOpened (from : Opened) : Type 0 where
   pub start : IsShownStart from.start
   pub commit : HasShownText from.commit
 
--- ---- whatever is opened
+-- ---- the laws
 
--- what opening gives where this is there to be opened: the newest commit of a directory, or nothing
-abbrev pub OpensAs : Opened → Opening
-OpensAs from schema (Ok opened) = (opened ≡ from) × (schema ≡ from.start.schema)
-OpensAs from schema (Err e) = Unit {0}
+-- The text answers the lines behind the first one, of a service that was opened so: by a run that fits them, with the replies to unreadable
+-- lines between. It is what `IsServedIn` says of a text where all that is told fits, as over directories that tell of their files.
+pub record AreAnswered (json : Json) (from : Opened) (lines : List Text) (text : Text) : Type 0 where
+  pub tolds : List Outcome
+  pub heard_all : HeardAll json from.start.schema lines tolds
+  pub is_run : IsRun from (filter_map exchange tolds)
+  pub files : AllByRecursion TellsFiles tolds
+  pub whole : text ≡ line_text (codes "OK" ∷ decimal from.start.token ∷ []) ++ flat_map outcome_text tolds
 
--- The first law for a service that is opened so.
+-- What answers lines without line feeds, as those of an input are, is a talk, and one only, whatever was opened.
+abbrev pub AnswersAreTalks : Json → Type 0
+AnswersAreTalks json =
+    (from : Opened) (first output : Text) (lines : List Text) → IsShownOpened from → AllByRecursion IsOneLine lines
+    → AreAnswered json from lines output
+    → (talk : List Pair) × IsTalk (first ∷ lines) output talk × ((other : List Pair) → IsTalk (first ∷ lines) output other → other ≡ talk)
+
+-- For every two talks of services that were opened with one start (their opened commits may differ), and whose writes up to t have the same
+-- texts: a read under t, be it a FIND, a FACETS or a GET, has the same reply in both, for sessions that hold t.
+abbrev pub TalksAgree : Json → Type 0
+TalksAgree json =
+    (from₁ from₂ : Opened) (first₁ first₂ output₁ output₂ : Text) (lines₁ lines₂ : List Text) → IsShownOpened from₁ → IsShownOpened from₂
+    → from₁.start ≡ from₂.start
+    → AllByRecursion IsOneLine lines₁ → AreAnswered json from₁ lines₁ output₁
+    → AllByRecursion IsOneLine lines₂ → AreAnswered json from₂ lines₂ output₂
+    → (talk₁ talk₂ : List Pair) → IsTalk (first₁ ∷ lines₁) output₁ talk₁ → IsTalk (first₂ ∷ lines₂) output₂ talk₂
+    → (t s₁ s₂ : ℕ) (text reply₁ reply₂ : Text)
+    → WritesAgree t talk₁ talk₂
+    → IsRead t text
+    → HeldAsk talk₁ t s₁ text reply₁
+    → HeldAsk talk₂ t s₂ text reply₂
+    → AreAlike s₁ s₂ reply₁ reply₂
+
+-- so it is where items are shown in lines
 abbrev pub AnswersOfAnyStartAreTalks : Type 0
-AnswersOfAnyStartAreTalks =
-    (json : Json) (from : Opened) → ReadsLines json → IsShownOpened from → AnswersAreTalks json (OpensAs from)
+AnswersOfAnyStartAreTalks = (json : Json) → ReadsLines json → AnswersAreTalks json
 
--- The second for two services that are opened with one start; their opened commits may differ.
+-- and so
 abbrev pub TalksOfOneStartAgree : Type 0
-TalksOfOneStartAgree =
-    (json : Json) (from₁ from₂ : Opened) → ReadsLines json → IsShownOpened from₁ → IsShownOpened from₂ → from₁.start ≡ from₂.start
-    → TalksAgree json (OpensAs from₁) (OpensAs from₂) (λ first₁ first₂. Unit {0})
+TalksOfOneStartAgree = (json : Json) → ReadsLines json → TalksAgree json

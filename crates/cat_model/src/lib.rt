@@ -101,9 +101,9 @@ pub fn hearing_is_one()
     ensures { HearingIsOne }
 {}
 
-/// Where only schemas are read as such, whatever two texts answer an input, the service was opened
-/// in one way and each line was heard in one way: they differ in replies alone. The protocol is our
-/// own.
+/// Where only schemas are read as such: whatever two directories tell, a service that a schema line
+/// opens over each has one schema, and hears each line behind it in one way. Where neither has a file,
+/// both are opened in one way, and differ in replies alone. The protocol is our own.
 pub fn inputs_are_heard_one_way()
     ensures { InputsAreHeardOneWay }
 {}
@@ -117,7 +117,7 @@ pub fn answers_are_talks()
     ensures { AnswersOfAnyStartAreTalks }
 {}
 
-/// Over bytes alone: two services that open one table, and what was read and written by each. Where the
+/// Over bytes alone: two services that open one table, and what each was told and wrote. Where the
 /// writes that were answered a number up to t have the same text in both, a read under t, be it a FIND, a
 /// FACETS or a GET, has the same reply in both, for sessions that hold t, whatever else was said.
 ///
