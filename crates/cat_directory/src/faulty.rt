@@ -1,8 +1,8 @@
 //! A device around another, which fails where it is told to: by it is tested what a failure leaves, and a crash.
 ghost use Rattle.std.specs.Prelude.{◌≡◌, ◌-◌, ◌↔◌, IfErr, IsErr};
 ghost use Rattle.cat_model.specs.cat_base.declared.refusal.Refusal.TheVariants.{Device};
-ghost use Rattle.cat_directory.specs.Devices.{CountsWriting};
-ghost use Rattle.cat_directory.specs.Fuses.{IsArmed, IsFaultDue, Notes};
+ghost use Rattle.cat_directory.specs.Devices.{CountsOne, CountsWriting};
+ghost use Rattle.cat_directory.specs.Fuses.{IsArmed, IsFaultDue, Notes, faults_after};
 
 use crate::{Directory, FileName, Holder, Shelf};
 use cat_model::cat_base::Refusal;
@@ -28,9 +28,11 @@ struct Fuse {
 }
 
 impl Fuse {
-    /// Counts a call, and says whether it passes.
+    /// Counts a call, which brings the next failure nearer, and says whether it passes.
     fn meet(&mut self) -> Result<(), Refusal>
         ensures due { IsErr result ↔ IsFaultDue self.old.faults }
+        ensures calls { CountsOne self.old.calls self.new.calls }
+        ensures faults { self.new.faults ≡ faults_after self.old.faults }
         ensures armed { IsArmed self.new.faults → IsArmed self.old.faults }
         ensures device { IfErr result (λ e. (e ≡ Device) × IsArmed self.old.faults) }
         ensures counted { CountsWriting self.old.failures self.new.failures result }
@@ -57,6 +59,7 @@ impl Fuse {
     fn note<T>(&mut self, answer: Result<T, Refusal>) -> Result<T, Refusal>
         ensures same { result ≡ answer }
         ensures faults { self.new.faults ≡ self.old.faults }
+        ensures calls { self.new.calls ≡ self.old.calls }
         ensures counted { Notes self.old.failures self.new.failures result }
     {
         if let Err(Refusal::Device) = &answer {
