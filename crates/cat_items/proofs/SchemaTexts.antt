@@ -129,4 +129,4 @@ pub lines_one_way : EveryLineIsHeardOneWay
 lines_one_way text schema bytes one two is = one_hearing reading.json schema bytes one two (rules_kept text schema is)
 
 pub inputs_one_way : EveryInputIsHeardOneWay
-inputs_one_way first lines text₁ text₂ = one_way reading.json first lines text₁ text₂ rules_kept
+inputs_one_way = one_way reading.json rules_kept

@@ -13,17 +13,14 @@ use Rattle.cat_base.specs.Texts.{sorted_set}
 use Rattle.cat_model.specs.Text.{Text, IsOneLine}
 use Rattle.cat_model.specs.Item.{Field, Kind, Schema, is_id}
 use Rattle.cat_model.specs.Forms.{is_plain_byte}
-use Rattle.cat_model.specs.Served.{OpensEmpty, Begins}
-use Rattle.cat_model.specs.Talk.{HasOneLines, IsShownInLines, ReadsLines, IsShownOpened}
-use Rattle.cat_model.proofs.TalkOpenings.{OpensShown, OpenAlike}
+use Rattle.cat_model.specs.Talk.{HasOneLines, IsShownInLines, ReadsLines}
 use Rattle.cat_model.proofs.Lists.{All-weaken}
-use Rattle.cat_model.proofs.TalkWhole.{answers_are_talks}
-use Rattle.cat_model.proofs.TalkLaw.{talks_agree}
+use Rattle.cat_model.proofs.TalkWhole.{answers_of_any_start}
+use Rattle.cat_model.proofs.TalkLaw.{talks_of_one_start}
 use Rattle.cat_items.specs.Reading.{json, keyword_fault, label_fault, labels_fault, list_fault, label_texts, value_of, contents_in}
-use Rattle.cat_items.specs.Laws.{HaveOneSchema, EveryAnswerIsOneTalk, HeldReadsAgreeInBytes}
+use Rattle.cat_items.specs.Laws.{EveryAnswerIsOneTalk, HeldReadsAgreeInBytes}
 use Rattle.cat_items.proofs.LoweredRuns.{All-sorted_set}
 use Rattle.cat_items.proofs.Formed.{IsRight, each_right, kinds, fields_right}
-use Rattle.cat_items.proofs.SchemaTexts.{rules_kept}
 use Rattle.cat_items.proofs.WholeItem.{item_whole}
 
 -- bytes that pass a test which a line feed doesn't
@@ -86,22 +83,8 @@ reads_lines fs bytes i ok one is =
     let parts = parts_line fs w.members (fields_right fs fs w.members w.right ok.named (kinds fs ok.rising)) in
     subst IsShownInLines w.is (record { id = id_line w.id w.form; source = one; fields = parts })
 
-pub opens_shown : OpensShown json OpensEmpty
-opens_shown first from (Begins.opened f l text schema r readable a is opens) =
-    subst IsShownOpened (sym opens) (record { start = record { schema = rules_kept text schema is; token = omega arith; records = tt }; commit = tt })
-
 pub answers_one_talk : EveryAnswerIsOneTalk
-answers_one_talk = answers_are_talks json OpensEmpty reads_lines opens_shown
-
--- two services that begin with nothing, under one schema
-open_alike : (first₁ first₂ : Text) → HaveOneSchema first₁ first₂ → OpenAlike json OpensEmpty OpensEmpty first₁ first₂
-open_alike first₁ first₂ same one two (Begins.opened f l text schema r readable a is opens) (Begins.opened g k text' schema' r' readable' b is' opens') =
-    let schemas : schema ≡ schema' = ok_value (sym is ∙ same f l g k text text' a b ∙ is') in
-    ap (λ o. o.start) opens ∙ ap (λ s. record { schema = s; records = []; token = 0 }) schemas ∙ ap (λ o. o.start) (sym opens')
-  where
-    ok_value : ◌≡◌ {A = Result Schema Refusal} (Ok schema) (Ok schema') → schema ≡ schema'
-    ok_value e = cc e
+answers_one_talk = answers_of_any_start json reads_lines
 
 pub bytes_agree : HeldReadsAgreeInBytes
-bytes_agree talk₁ talk₂ t s₁ s₂ text reply₁ reply₂ one two same =
-    talks_agree json OpensEmpty OpensEmpty reads_lines opens_shown opens_shown talk₁ talk₂ t s₁ s₂ text reply₁ reply₂ one two (open_alike one.is_talk.first two.is_talk.first same)
+bytes_agree = talks_of_one_start json reads_lines
