@@ -2,6 +2,7 @@
 //! sessions' rights to views.
 #![tactic(auto)]
 
+mod held;
 pub mod records;
 pub mod refs;
 pub mod rights;

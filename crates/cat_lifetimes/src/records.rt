@@ -1,6 +1,5 @@
 //! The recorded views in rising order of token, and which session holds which.
 
-mod held;
 mod recorded;
 mod records;
 

@@ -1,6 +1,6 @@
 -- The entries of a map whose names nobody has, in order.
-use Rattle.std.proofs.Common.{◌≡◌, ◌≢◌, ℕ, ◌+◌, List, [], ◌∷◌, map, get_or, Bool, true, false, cond, ◌&&◌, Option, Some, None, refl, sym, ◌∙◌, ap, arith}
-use Rattle.std.specs.Prelude.{◌==◌, is_some, unwrap_or, filter, AllPairs}
+use Rattle.std.proofs.Common.{◌≡◌, ◌≢◌, ℕ, ◌+◌, List, [], ◌∷◌, map, get_or, Bool, true, false, cond, ◌&&◌, ◌||◌, Option, Some, None, refl, sym, ◌∙◌, ap, subst, arith}
+use Rattle.std.specs.Prelude.{◌==◌, count_by, is_some, unwrap_or, filter, AllPairs}
 use Rattle.std.specs.List.{AllByRecursion, IsDistinct}
 use Rattle.std.specs.List.Sorted.{IsSorted, IsPermutation, IsStrictlySortedBy}
 use Rattle.std.specs.Map.{lookup, keys_of}
@@ -9,19 +9,21 @@ use Rattle.std.specs.declared.cmp.Ordering.{Ordering}
 use Rattle.std.specs.declared.cmp.Ordering.TheVariants.{Less, Equal, Greater}
 use Rattle.std.proofs.lemmas.Bool.{both_ways}
 use Rattle.std.proofs.lemmas.List.Sorted.{list_any-IsPermutation}
+use Rattle.std.proofs.lemmas.List.Sums.{sum_by-cons}
 use Rattle.std.proofs.lemmas.Map.Keys.{IsDistinct-IsPermutation, IsDistinct-head, IsDistinct-tail, apart_from_distinct, sorted_from_all_adjacent}
 use Rattle.std.proofs.lemmas.Map.Entries.{option_filter, lookup-filter-values}
 use Rattle.std.proofs.lemmas.Map.Made.{is_some-lookup, IsDistinct-keys_filter}
 use Rattle.cat_ledger_laws.specs.model.Portions.{Apart}
-use Rattle.cat_ledger_laws.specs.model.Users.{same_file_name}
+use Rattle.cat_ledger_laws.specs.model.Users.{Used, is_known, same_file_name, users_of}
+use Rattle.cat_model.specs.Files.{Name}
 use Rattle.cat_ledger_laws.proofs.model.Commits.{AllPairs-from_Apart}
 use Rattle.cat_directory.specs.declared.name.FileName.{FileName}
 use Rattle.cat_directory.specs.declared.name.FileName.TheVariants.{Segment}
 use Rattle.cat_directory.specs.Names.{name_of, name_cmp, same_name}
-use Rattle.cat_directory.specs.NameOrder.{same_name_equivalence, names_tie, name_cmp_total}
-use Rattle.cat_lifetimes.specs.refs.Counts.{used_in}
+use Rattle.cat_directory.specs.NameOrder.{same_name_equivalence, same_name_is, names_tie, name_cmp_total}
+use Rattle.cat_lifetimes.specs.refs.Counts.{is_pending, used_in}
 use Rattle.cat_lifetimes.specs.refs.Swept.{ArePending}
-use Rattle.cat_lifetimes.proofs.refs.Named.{same_names, users_in, known_in}
+use Rattle.cat_lifetimes.proofs.refs.Named.{known_in, of_files, same_names, users_in}
 
 -- names that are sorted, with none of them twice, rise
 pub rises : (given names : List FileName) → IsPermutation given names → IsDistinct same_name given → IsSorted name_cmp names → IsStrictlySortedBy name_cmp names
@@ -67,3 +69,44 @@ once_in (e ∷ es) d = (each e es (IsDistinct-head same_name e.0 (keys_of es) d)
 
 pub once : (es : List (FileName × ℕ)) → IsDistinct same_name (keys_of es) → AllPairs (λ u v. u.name ≢ v.name) (map used_in es)
 once es d = AllPairs-from_Apart (λ u v. u.name ≢ v.name) (map used_in es) (once_in es d)
+
+-- ---- where no name is pending
+
+-- a name that is none of the keys isn't known
+none_known : (k : FileName) (es : List (FileName × ℕ)) → AllByRecursion (λ y. same_name k y ≡ false) (keys_of es) → is_known (map used_in es) (name_of k) ≡ false
+none_known k [] a = refl
+none_known k (f ∷ fs) a = ap (λ b. b || is_known (map used_in fs) (name_of k)) (same_names k f.0 ∙ a.0) ∙ none_known k fs a.1
+
+-- the first of them has a user, where none is pending
+first_used : (e : FileName × ℕ) (us : List Used) → is_pending (used_in e ∷ us) (name_of e.0) ≡ false → (e.1 == 0) ≡ false
+first_used e us none =
+    let self : same_file_name (name_of e.0) (name_of e.0) ≡ true = same_names e.0 e.0 ∙ same_name_equivalence.refl e.0 in
+    sym (ap (λ b. (b || is_known us (name_of e.0)) && (cond b e.1 (users_of us (name_of e.0)) == 0)) self) ∙ none
+
+-- nor is one of the others
+others_none : (e : FileName × ℕ) (es : List (FileName × ℕ)) → AllByRecursion (λ y. same_name e.0 y ≡ false) (keys_of es)
+    → ((q : Name) → is_pending (map used_in (e ∷ es)) q ≡ false) → (q : Name) → is_pending (map used_in es) q ≡ false
+others_none e es apart none = of_files (λ n. is_pending (map used_in es) n ≡ false) (λ q. by q (same_name q e.0) refl)
+  where
+    by : (q : FileName) (b : Bool) → same_name q e.0 ≡ b → is_pending (map used_in es) (name_of q) ≡ false
+    by q true is =
+        ap (λ b. b && (users_of (map used_in es) (name_of q) == 0))
+        (subst (λ k. is_known (map used_in es) (name_of k) ≡ false) (sym (same_name_is q e.0 is)) (none_known e.0 es apart))
+    by q false is =
+        sym (ap (λ b. (b || is_known (map used_in es) (name_of q)) && (cond b e.1 (users_of (map used_in es) (name_of q)) == 0)) (same_names q e.0 ∙ is))
+        ∙ none (name_of q)
+
+abbrev unused : List Used → ℕ
+unused us = count_by (λ (u : Used). u.users == 0) us
+
+-- no entry is without users where no name is pending
+pub none_left : (es : List (FileName × ℕ)) → IsDistinct same_name (keys_of es) → ((q : Name) → is_pending (map used_in es) q ≡ false)
+    → unused (map used_in es) ≡ 0
+none_left [] distinct none = refl
+none_left (e ∷ es) distinct none =
+    let more : unused (map used_in (e ∷ es)) ≡ cond (e.1 == 0) 1 0 + unused (map used_in es) =
+    sum_by-cons (λ (u : Used). cond (u.users == 0) 1 0) (used_in e) (map used_in es) in
+    let first : cond {A = ℕ} (e.1 == 0) 1 0 ≡ 0 = ap {B = ℕ} (λ b. cond b 1 0) (first_used e (map used_in es) (none (name_of e.0))) in
+    let rest = none_left es (IsDistinct-tail same_name e.0 (keys_of es) distinct)
+    (others_none e es (IsDistinct-head same_name e.0 (keys_of es) distinct) none) in
+    omega (arith, more, first, rest)

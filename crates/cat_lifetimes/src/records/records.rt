@@ -12,7 +12,7 @@ ghost use Rattle.cat_lifetimes.specs.records.Records.{AreRecords, has_token, hol
 ghost use Rattle.cat_ledger_laws.specs.shape.Steps.{tokens_of};
 ghost use Rattle.cat_lifetimes.specs.records.Records.{acquired, pruned_to, released, records_with_view};
 
-use crate::records::held::HeldToken;
+use crate::held::HeldToken;
 use crate::records::recorded::{
     Recorded, count_hold, count_release, files_below, first_free, index_of, recorded_under,
 };

@@ -4,8 +4,10 @@ ghost use Rattle.cat_base.specs.declared.refusal.Refusal.TheVariants.{Memory, De
 ghost use Rattle.cat_model.specs.Files.{Name};
 ghost use Rattle.cat_ledger_laws.specs.model.Users.{Changes, times, users_of, is_known};
 ghost use Rattle.cat_directory.specs.Devices.{CountsWriting, NoMore};
-ghost use Rattle.cat_directory.specs.Names.{name_of};
+ghost use Rattle.cat_directory.specs.Names.{name_of, same_name};
 ghost use Rattle.std.specs.HashMap.{spare};
+ghost use Rattle.std.specs.List.{IsDistinct};
+ghost use Rattle.std.specs.Map.{keys_of};
 ghost use Rattle.cat_lifetimes.specs.refs.Counts.{IsPending, PutsUsers, is_pending, names_in, used_in, users_under};
 ghost use Rattle.cat_lifetimes.specs.refs.Swept.{ArePending, Swept};
 
@@ -99,6 +101,7 @@ impl FileRefs {
         ensures known { (q : Name) → is_known self.new q ≡ true → is_known self.old q ≡ true }
         ensures ok { IfOk result (λ n. (n ≡ count_by (λ u. u.users == 0) self.old)
             × ((q : Name) → is_pending self.new q ≡ false)) }
+        ensures done { OnOk result (count_by (λ u. u.users == 0) self.new ≡ 0) }
         ensures memory { IfErr result (λ e. e ≡ Memory → (self.new ≡ self.old)
             × ((q : FileName) → D.bytes directory.new q ≡ D.bytes directory.old q)
             × ((q : FileName) → NoMore (D.may_leave directory.old q) (D.may_leave directory.new q))) }
@@ -137,6 +140,7 @@ fn add_user(users: &mut HashMap<FileName, u64>, name: FileName)
 fn pending_names(users: &HashMap<FileName, u64>, alloc: Global) -> Result<Vec<FileName>, AllocError>
     ensures names { IfOk result (λ names. ArePending (map used_in users.now.entries) names.items) }
     ensures count { IfOk result (λ names. length names.items ≡ count_by (λ u. u.users == 0) (map used_in users.now.entries)) }
+    ensures once { OnOk result (IsDistinct same_name (keys_of users.now.entries)) }
 {
     let unused = users.iter().filter(|(_, users)| **users == 0);
     let mut names: Vec<FileName> = unused.map(|(name, _)| *name).collect(alloc)?;

@@ -3,7 +3,7 @@ ghost use Rattle.std.specs.Prelude.{◌≡◌, ◌+◌, ◌<◌, ◌^◌, ◌++�
 ghost use Rattle.std.specs.Prelude.{None, Some, IfErr, IfNone, IfSome, OnErr, OnOk};
 ghost use Rattle.cat_lifetimes.specs.rights.Rights.{AreRightsApart, PutsIn, TakesOut, right_of};
 
-use crate::rights::key::RightKey;
+use crate::held::HeldToken;
 use cat_base::{SessionNo, Token};
 use cat_views::Hold;
 use indexmap::IndexMap;
@@ -33,7 +33,7 @@ use std::marker::Model;
 /// ```
 pub struct Rights {
     // Each under its session and the token of its view.
-    holds: IndexMap<RightKey, Hold>,
+    holds: IndexMap<HeldToken, Hold>,
 }
 
 impl Model for Rights {
@@ -79,7 +79,7 @@ impl Rights {
     pub fn get(&self, session: SessionNo, token: Token) -> Option<&Hold>
         ensures { option_map (λ h. h.now) result ≡ right_of self.now session token }
     {
-        self.holds.get(&RightKey::new(session, token))
+        self.holds.get(&HeldToken::new(session, token))
     }
 
     /// Adds the right, whose session has none to its view. The error is for want of memory alone: the right comes back, and
@@ -91,7 +91,7 @@ impl Rights {
         ensures returned { IfErr result (λ h. h ≡ hold) }
         ensures err { OnErr result (self.new ≡ self.old) }
     {
-        let key = RightKey::new(hold.session(), hold.token());
+        let key = HeldToken::new(hold.session(), hold.token());
         match self.holds.insert(key, hold) {
             Ok(None) => Ok(()),
             Ok(Some(_other)) => unreachable!(),
@@ -110,7 +110,7 @@ impl Rights {
         ensures len { length self.new + (if is_some result then 1 else 0) ≡ length self.old }
         ensures unchanged { IfNone result (self.new ≡ self.old) }
     {
-        self.holds.swap_remove(&RightKey::new(session, token))
+        self.holds.swap_remove(&HeldToken::new(session, token))
     }
 
     /// Takes out some right; none exactly where none is left. All others stay. It takes no memory.

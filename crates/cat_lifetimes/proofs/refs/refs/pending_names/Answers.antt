@@ -22,3 +22,6 @@ returns-clause-names c =
     let listed : vec_items c.in_ok-names.names ≡ keys_of (filter (λ (e : FileName × ℕ). e.1 == 0) c.args.users.now.entries) = IfOk-at_ok _ c.in_ok-names.was collected in
     unused_are c.args.users.now.entries c.sort_unstable.new.self.items c.iter.ensures.unique
     (subst (λ (l : List FileName). IsPermutation l c.sort_unstable.new.self.items) listed c.sort_unstable.ensures.permutation) c.sort_unstable.ensures.sorted
+
+pub returns-clause-once : goal.returns-clause-once
+returns-clause-once c = c.iter.ensures.unique

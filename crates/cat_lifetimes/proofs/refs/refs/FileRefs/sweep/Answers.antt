@@ -9,12 +9,14 @@ use Rattle.cat_directory.specs.Names.{same_name}
 use Rattle.cat_lifetimes.specs.refs.Counts.{used_in, IsPending}
 use Rattle.cat_lifetimes.specs.refs.Swept.{ArePending}
 use Rattle.cat_lifetimes.proofs.refs.Sweeps.{Sweeping, DeletesOne, Drops, begin, go_on, finished, stopped, unused_at, still_known}
+use Rattle.cat_lifetimes.proofs.refs.Unused.{none_left}
 use Rattle.cat_lifetimes.proofs.refs.refs.FileRefs.sweep.Goals as goal
 
 pub loop-name-init : goal.loop-name-init
 loop-name-init g c = record {
   sweeping = subst (λ (us : List Used). Sweeping c.args.self.now us c.deref-name-items.result.now 0 (g.D.Holder.bytes c.args.directory.now) (g.D.Holder.bytes c.args.directory.now) (g.D.Holder.may_leave c.args.directory.now) (g.D.Holder.may_leave c.args.directory.now))
       (sym c.self.view_is) (begin c.args.self.now c.deref-name-items.result.now (g.D.Holder.bytes c.args.directory.now) (g.D.Holder.may_leave c.args.directory.now));
+  once = c.in_ok-names.ensures.once;
   faults = refl;
   can = λ can. can;
 }
@@ -32,6 +34,7 @@ loop-name-preserved g c =
     let unused : lookup (same_name k) c.loop-name.self-inside.users.entries ≡ Some 0 = unused_at _ _ names i (Segment 0) _ _ _ _ pending c.loop-name-test.true c.loop-name.invariant.sweeping in
     record {
       sweeping = go_on _ _ _ names i (Segment 0) _ _ _ _ _ _ c.loop-name-test.true unused drops one c.in_ok-delete.ensures.ok c.loop-name.invariant.sweeping;
+      once = c.remove.ensures.unique;
       faults = search rules;
       can = λ can. c.loop-name.invariant.can (c.delete.ensures.can can);
     }
@@ -53,6 +56,15 @@ returns-clause-ok g c =
     let counted : length c.in_ok-names.names.items ≡ count_by (λ (u : Used). u.users == 0) c.args.self.now =
     subst (λ (us : List Used). length c.in_ok-names.names.items ≡ count_by (λ (u : Used). u.users == 0) us) c.self.view_is c.in_ok-names.ensures.count in
     (omega (arith, counted, c.len.ensures, c.in_ok-names.names.ok), (finished _ _ names i _ _ _ _ pending c.loop-name-test.false c.loop-name.invariant.sweeping).1)
+
+pub returns-clause-done : goal.returns-clause-done
+returns-clause-done g c =
+    let i : ℕ = c.loop-name.name-index in
+    let names : List FileName = c.deref-name-items.result.now in
+    let pending : ArePending c.args.self.now names = subst (λ (us : List Used). ArePending us names) c.self.view_is
+    (subst (λ (l : List FileName). ArePending (map used_in c.self.inside.users.entries) l) (sym c.deref-name-items.ensures.value) c.in_ok-names.ensures.names) in
+    none_left c.loop-name.self-inside.users.entries c.loop-name.invariant.once
+    (finished _ _ names i _ _ _ _ pending c.loop-name-test.false c.loop-name.invariant.sweeping).1
 
 pub returns-clause-users : goal.returns-clause-users
 returns-clause-users g c = c.loop-name.invariant.sweeping.users

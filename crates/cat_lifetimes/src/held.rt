@@ -1,10 +1,10 @@
-//! What a session holds.
+//! A session with a token: that it holds it, and by what its right to the view is found.
 ghost use Rattle.std.specs.Prelude.{◌≡◌};
 
 use cat_base::{SessionNo, Token};
 use std::marker::Model;
 
-/// That a session holds a token.
+/// A session, and a token that it holds.
 #[derive(Clone, Copy, PartialEq, Eq, Hash)]
 pub(crate) struct HeldToken {
     session: SessionNo,
