@@ -1,24 +1,12 @@
 -- Lists, one element more.
-use Rattle.std.proofs.Common.{◌≡◌, ℕ, suc, ◌+◌, ◌-◌, ◌<◌, List, [], ◌∷◌, ◌++◌, length, take, drop, get_or, Some, None, refl, ap, ◌∙◌, arith}
-use Rattle.std.specs.Prelude.{slice_get}
-use Rattle.std.specs.List.{flat_map, last_or}
+use Rattle.std.proofs.Common.{◌≡◌, ℕ, suc, ◌+◌, ◌-◌, ◌<◌, List, [], ◌∷◌, ◌++◌, length, take, drop, get_or, refl, ap, ◌∙◌, arith}
+use Rattle.std.specs.List.{flat_map}
 use Rattle.std.proofs.lemmas.List.{take_more, take_all, append-nil, length-drop}
 use Rattle.std.proofs.lemmas.Grind.{flat_map-append}
 
 pub flat_map_more : {X Y : Type 0} (f : X → List Y) (xs : List X) (i : ℕ) (d : X) → i < length xs → flat_map f (take (i + 1) xs) ≡ flat_map f (take i xs) ++ f (get_or xs i d)
 flat_map_more f xs i d within =
     ap (flat_map f) (take_more xs i d within) ∙ flat_map-append f (take i xs) (get_or xs i d ∷ []) ∙ ap (λ l. flat_map f (take i xs) ++ l) (append-nil (f (get_or xs i d)))
-
-pub last_is : (xs : List ℕ) → slice_get xs (length xs - 1) ≡ last_or None xs
-last_is [] = refl
-last_is (x ∷ xs) = ap (slice_get (x ∷ xs)) (less (length xs)) ∙ from x xs
-  where
-    less : (n : ℕ) → suc n - 1 ≡ n
-    less n = omega arith
-
-    from : (x : ℕ) (xs : List ℕ) → slice_get (x ∷ xs) (length xs) ≡ last_or (Some x) xs
-    from x [] = refl
-    from x (y ∷ ys) = from y ys
 
 pub drop_behind : {A : Type 0} (front rest : List A) (k m : ℕ) → length front ≡ k → drop (k + m) (front ++ rest) ≡ drop m rest
 drop_behind [] rest k m long = let e : k + m ≡ m = omega arith in rw e refl

@@ -1,10 +1,11 @@
 -- The parts of a leaf, and leaves in a list.
-use Rattle.std.proofs.Common.{◌≡◌, ◌≢◌, ℕ, zero, suc, ◌+◌, ◌<◌, ◌≤◌, ◌==◌, List, [], ◌∷◌, ◌++◌, length, get_or, take, map, Bool, true, false, cond, replicate, Some, refl, sym, ◌∙◌, ap, subst, arith, inl, inr}
+use Rattle.std.proofs.Common.{◌≡◌, ◌≢◌, ℕ, zero, suc, ◌+◌, ◌<◌, ◌≤◌, ◌==◌, List, [], ◌∷◌, ◌++◌, length, get_or, take, map, Bool, true, false, cond, replicate, Some, None, refl, sym, ◌∙◌, ap, subst, arith, inl, inr}
 use Rattle.std.specs.Prelude.{All, AllPairs, ◌⊎◌}
-use Rattle.std.specs.List.{AllByRecursion, flat_map}
+use Rattle.std.specs.List.{AllByRecursion, HoldsAt, flat_map}
 use Rattle.std.proofs.lemmas.Bool.Decides.{eqb_tells}
 use Rattle.std.proofs.lemmas.List.{take_more}
 use Rattle.std.proofs.lemmas.List.Elements.{All-from_recursion}
+use Rattle.cat_directory.specs.Devices.{Told}
 use Rattle.cat_directory.specs.declared.name.FileName.{FileName}
 use Rattle.cat_directory.specs.declared.name.FileName.TheVariants as file
 use Rattle.cat_model.specs.Text.{Text}
@@ -159,6 +160,20 @@ leaf_at holds schema (x ∷ xs) [] i d lt h = absurd h
 leaf_at holds schema (x ∷ xs) (l ∷ ls) zero d lt h = (l, h.0)
 leaf_at holds schema (x ∷ xs) (l ∷ ls) (suc i) d lt h = leaf_at holds schema xs ls i d (omega (arith, lt)) h.1
 
+-- the file of a segment that was read isn't told to be absent
+pub not_absent : (t : Told) (b : Text) → IsTold t (Some b) → t ≢ Some None
+not_absent None b may absent = let no : None ≡ Some None = absent in cc
+not_absent (Some None) b may absent = cc
+not_absent (Some (Some bs)) b may absent = cc
+
+pub leaf_there : (told : ToldFiles) (schema : Schema) (x : ListedSegment) (l : Leaf) → IsLeafOf (MayHold told) schema x l → told (file.Segment x.number) ≢ Some None
+leaf_there told schema x l is =
+    subst (λ (n : ℕ). told (file.Segment n) ≢ Some None) is.number (not_absent (told (file.Segment l.segment.number)) is.segment.bytes is.segment.there)
+
+pub read_there : (told : ToldFiles) (schema : Schema) (number n : ℕ) (s : Segment) → number ≡ n → IsSegmentReadAs (MayHold told) schema number s → told (file.Segment n) ≢ Some None
+read_there told schema number n s is r =
+    subst (λ (k : ℕ). told (file.Segment k) ≢ Some None) (r.numbered ∙ is) (not_absent (told (file.Segment s.number)) r.segment.bytes r.segment.there)
+
 -- the next leaf can't be read
 pub leaf_refuted : (told now : ToldFiles) (schema : Schema) (xs : List ListedSegment) (ls : List Leaf) (i : ℕ) (d : ListedSegment) → i < length xs → now ≡ told
     → ((l : Leaf) → IsLeafOf (Tells now) schema (get_or xs i d) l → ⊥) → AreLeavesOf (Tells told) schema xs ls → ⊥
@@ -173,6 +188,15 @@ leaves_next told now schema xs ls new l i d lt same is are e =
     subst (λ (m : List Leaf). AreLeavesOf (MayHold told) schema (take (i + 1) xs) m) (sym e)
     (subst (λ (ys : List ListedSegment). AreLeavesOf (MayHold told) schema ys (ls ++ l ∷ [])) (sym (take_more xs i d lt))
     (leaves_more (MayHold told) schema (take i xs) ls (get_or xs i d) l are (subst (λ (t : ToldFiles). IsLeafOf (MayHold t) schema (get_or xs i d) l) same is)))
+
+-- the first listed segment's file is there where another is looked for: the leaf of each before was read
+pub first_there : (told now : ToldFiles) (schema : Schema) (xs : List ListedSegment) (ls : List Leaf) (i : ℕ) (d : ListedSegment) → i < length xs → now ≡ told
+    → AreLeavesOf (MayHold told) schema (take i xs) ls → now (file.Segment (get_or xs i d).number) ≢ Some None
+    → (0 < length xs) × HoldsAt (λ x. told (file.Segment x.number) ≢ Some None) xs 0
+first_there told now schema [] ls i d lt same are there = absurd (omega (arith, lt))
+first_there told now schema (x ∷ xs) ls zero d lt same are there = (omega arith, λ e absent. there (subst (λ (t : ToldFiles). t (file.Segment x.number) ≡ Some None) (sym same) absent))
+first_there told now schema (x ∷ xs) [] (suc i) d lt same are there = absurd are
+first_there told now schema (x ∷ xs) (l ∷ ls) (suc i) d lt same are there = (omega arith, λ e. leaf_there told schema x l are.0)
 
 -- ---- a view
 

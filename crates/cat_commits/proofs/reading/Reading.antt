@@ -1,12 +1,13 @@
 -- The steps of a reading.
-use Rattle.std.proofs.Common.{◌≡◌, ◌≢◌, ℕ, ◌+◌, ◌<◌, ◌≤◌, List, [], ◌∷◌, ◌++◌, length, get_or, take, drop, map, Some, None, Result, Ok, Err, IfErr, replicate, refl, sym, ◌∙◌, ap, ap₂, subst, arith, zero-add}
-use Rattle.std.specs.Prelude.{IsErr, IsErrAnd, sum}
+use Rattle.std.proofs.Common.{◌≡◌, ◌≢◌, ℕ, ◌+◌, ◌<◌, ◌≤◌, List, [], ◌∷◌, ◌++◌, length, get_or, take, drop, map, Some, None, Result, Ok, Err, IfOk, IfErr, replicate, refl, sym, ◌∙◌, ap, ap₂, subst, arith, inl, inr, zero-add}
+use Rattle.std.specs.Prelude.{◌⊎◌, IsErr, IsErrAnd, sum}
 use Rattle.std.specs.List.{HoldsAt}
 use Rattle.std.proofs.lemmas.List.{take_more, take_all, length-append, length-replicate, map-append}
 use Rattle.std.proofs.lemmas.List.Sums.{sum_by-append}
 use Rattle.std.proofs.Math.Seq.{take-add}
 use Rattle.cat_base.specs.declared.refusal.Refusal.{Refusal}
-use Rattle.cat_directory.specs.Devices.{Told}
+use Rattle.cat_base.specs.declared.refusal.Refusal.TheVariants.{Damaged, Device, Memory}
+use Rattle.cat_directory.specs.Devices.{CountsReading, ReadingCount, Told}
 use Rattle.cat_model.specs.Text.{Text}
 use Rattle.cat_model.specs.View.{Row}
 use Rattle.cat_ledger_laws.specs.shape.Ties.{IsTold}
@@ -61,3 +62,31 @@ lengths_of (r ∷ rs) n l long last =
   where
     one_sum : (k : ℕ) → sum (k ∷ []) ≡ k
     one_sum k = zero-add k
+
+-- ---- refusals, where a `?` passes them on
+
+-- nothing is answered
+pub not_ok : {T : Type 0} (P : T → Type 0) (r : Result T Refusal) (e : Refusal) → IsErr r × IsErrAnd r (λ x. x ≡ e) → IfOk r P
+not_ok P r e so = subst (λ (r : Result _ Refusal). IfOk r P) (sym (fault_is r e so)) tt
+
+-- whatever the refusal is
+pub any_fault : {T : Type 0} (P : Refusal → Type 0) (r : Result T Refusal) → ((e : Refusal) → P e) → IfErr r P
+any_fault P (Ok x) p = tt
+any_fault P (Err e) p = p e
+
+pub counts_on : {T : Type 0} (old new : ℕ) (r : Result T Refusal) (e : Refusal) → IsErr r × IsErrAnd r (λ x. x ≡ e) → ReadingCount old new e → CountsReading old new r
+counts_on old new r e so counted = subst (λ (r : Result _ Refusal). CountsReading old new r) (sym (fault_is r e so)) counted
+
+-- behind calls that count nothing
+pub counts_behind : {T : Type 0} (old mid new : ℕ) (r : Result T Refusal) (e : Refusal) → IsErr r × IsErrAnd r (λ x. x ≡ e) → mid ≡ old → ReadingCount mid new e → CountsReading old new r
+counts_behind old mid new r e so same counted = counts_on old new r e so (subst (λ (n : ℕ). ReadingCount n new e) same counted)
+
+-- what judges bytes counts nothing
+pub counts_judged : (old new : ℕ) (e : Refusal) → (e ≡ Damaged) ⊎ (e ≡ Memory) → new ≡ old → ReadingCount old new e
+counts_judged old new e (inl is) same = subst (ReadingCount old new) (sym is) same
+counts_judged old new e (inr is) same = subst (ReadingCount old new) (sym is) same
+
+-- and isn't a device that fails
+pub judged : (X : Type 0) (e : Refusal) → (e ≡ Damaged) ⊎ (e ≡ Memory) → e ≡ Device → X
+judged X e (inl is) device = let no : Damaged ≡ Device = sym is ∙ device in cc
+judged X e (inr is) device = let no : Memory ≡ Device = sym is ∙ device in cc

@@ -1,6 +1,6 @@
 //! One listed segment, read from its files.
-ghost use Rattle.std.specs.Prelude.{◌≡◌, ◌↔◌, ◌<◌, ◌^◌, Bool, List, length, map, sum, IsTrue, OnOk, IfOk, IfErr};
-ghost use Rattle.cat_base.specs.declared.refusal.Refusal.TheVariants.{Device, Damaged};
+ghost use Rattle.std.specs.Prelude.{◌≡◌, ◌≢◌, ◌↔◌, ◌⊎◌, ◌<◌, ◌^◌, Bool, List, length, map, sum, Some, None, IsTrue, OnOk, IfOk, IfErr};
+ghost use Rattle.cat_base.specs.declared.refusal.Refusal.TheVariants.{Device, Damaged, Memory};
 ghost use Rattle.cat_directory.specs.Devices.{CountsReading, NoMore};
 ghost use Rattle.cat_model.specs.View as model;
 ghost use Rattle.cat_ledger_laws.specs.model.Opening.{HasSources, HasLiveFile, IsLeafOf};
@@ -35,7 +35,8 @@ fn is_of(segment: &Segment, schema: &Schema, number: SegNo) -> bool
     segment.number() == number && same_schema(segment.schema(), schema)
 }
 
-/// The segment of the number, where its file holds one of that number and under the schema; else [`Refusal::Damaged`].
+/// The segment of the number, where its file holds one of that number and under the schema; else [`Refusal::Damaged`]. Want
+/// of memory never hides that the file is absent.
 fn read_segment<S: Shelf>(
     alloc: Global,
     shelf: &mut S,
@@ -44,6 +45,7 @@ fn read_segment<S: Shelf>(
 ) -> Result<Segment, Refusal>
     ensures ok { IfOk result (IsSegmentReadAs (MayHold (S.bytes shelf.old)) schema.now number) }
     ensures damaged { IfErr result (λ e. e ≡ Damaged → (s : model.Segment) → IsSegmentReadAs (Tells (S.bytes shelf.old)) schema.now number s → ⊥) }
+    ensures due { IfErr result (λ e. e ≡ Memory → S.bytes shelf.old (FileName.Segment number) ≢ Some None) }
     ensures device { IfErr result (λ e. e ≡ Device → S.can_fail shelf.old) }
     ensures same { (q : FileName) → S.bytes shelf.new q ≡ S.bytes shelf.old q }
     ensures crash { (q : FileName) → NoMore (S.may_leave shelf.old q) (S.may_leave shelf.new q) }
@@ -67,7 +69,7 @@ fn is_for(file: &LiveFile, number: SegNo, generation: Generation, rows: usize) -
 }
 
 /// What the live file says that the commit of the generation wrote of the segment of the number, of which there are so many
-/// rows; else [`Refusal::Damaged`].
+/// rows; else [`Refusal::Damaged`]. Want of memory never hides that the file is absent.
 fn read_live_file<S: Shelf>(
     alloc: Global,
     shelf: &mut S,
@@ -79,6 +81,7 @@ fn read_live_file<S: Shelf>(
         × (length live ≡ rows)) }
     ensures damaged { IfErr result (λ e. e ≡ Damaged → (live : List Bool)
         → HasLiveFile (Tells (S.bytes shelf.old)) (record { number = number; file = generation }) live → length live ≡ rows → ⊥) }
+    ensures due { IfErr result (λ e. e ≡ Memory → S.bytes shelf.old (FileName.Live number generation) ≢ Some None) }
     ensures device { IfErr result (λ e. e ≡ Device → S.can_fail shelf.old) }
     ensures same { (q : FileName) → S.bytes shelf.new q ≡ S.bytes shelf.old q }
     ensures crash { (q : FileName) → NoMore (S.may_leave shelf.old q) (S.may_leave shelf.new q) }
@@ -105,6 +108,7 @@ fn read_live<S: Shelf>(
     ensures ok { IfOk result (λ live. HasLiveRows (MayHold (S.bytes shelf.old)) listed rows live × (length live ≡ rows)) }
     ensures damaged { IfErr result (λ e. e ≡ Damaged → (live : List Bool)
         → HasLiveRows (Tells (S.bytes shelf.old)) listed rows live → length live ≡ rows → ⊥) }
+    ensures due { IfErr result (λ e. e ≡ Memory → listed.file ≢ 0 → S.bytes shelf.old (FileName.Live listed.number listed.file) ≢ Some None) }
     ensures device { IfErr result (λ e. e ≡ Device → S.can_fail shelf.old) }
     ensures same { (q : FileName) → S.bytes shelf.new q ≡ S.bytes shelf.old q }
     ensures crash { (q : FileName) → NoMore (S.may_leave shelf.old q) (S.may_leave shelf.new q) }
@@ -128,10 +132,11 @@ fn are_sources(segment: &Segment, size: u64) -> bool
     size >= offset && size - offset == length
 }
 
-/// Judges the size of the file with the sources of the segment's rows.
+/// Judges the size of the file with the sources of the segment's rows. It takes no memory.
 fn judge_sources<S: Shelf>(shelf: &mut S, segment: &Segment) -> Result<(), Refusal>
     ensures ok { OnOk result (HasSources (MayHold (S.bytes shelf.old)) segment.now) }
     ensures damaged { IfErr result (λ e. e ≡ Damaged → HasSources (Tells (S.bytes shelf.old)) segment.now → ⊥) }
+    ensures refusal { IfErr result (λ e. (e ≡ Damaged) ⊎ (e ≡ Device)) }
     ensures device { IfErr result (λ e. e ≡ Device → S.can_fail shelf.old) }
     ensures same { (q : FileName) → S.bytes shelf.new q ≡ S.bytes shelf.old q }
     ensures crash { (q : FileName) → NoMore (S.may_leave shelf.old q) (S.may_leave shelf.new q) }
@@ -154,6 +159,7 @@ fn read_parts<S: Shelf>(
 ) -> Result<(Segment, Live), Refusal>
     ensures ok { IfOk result (λ p. IsLeafOf (MayHold (S.bytes shelf.old)) schema.now listed (record { segment = p.0; live = p.1 })) }
     ensures damaged { IfErr result (λ e. e ≡ Damaged → (leaf : model.Leaf) → IsLeafOf (Tells (S.bytes shelf.old)) schema.now listed leaf → ⊥) }
+    ensures due { IfErr result (λ e. e ≡ Memory → S.bytes shelf.old (FileName.Segment listed.number) ≢ Some None) }
     ensures device { IfErr result (λ e. e ≡ Device → S.can_fail shelf.old) }
     ensures same { (q : FileName) → S.bytes shelf.new q ≡ S.bytes shelf.old q }
     ensures crash { (q : FileName) → NoMore (S.may_leave shelf.old q) (S.may_leave shelf.new q) }
@@ -177,6 +183,7 @@ pub(crate) fn read_leaf<S: Shelf>(
 ) -> Result<Leaf, Refusal>
     ensures ok { IfOk result (IsLeafOf (MayHold (S.bytes shelf.old)) schema.now listed) }
     ensures damaged { IfErr result (λ e. e ≡ Damaged → (leaf : model.Leaf) → IsLeafOf (Tells (S.bytes shelf.old)) schema.now listed leaf → ⊥) }
+    ensures due { IfErr result (λ e. e ≡ Memory → S.bytes shelf.old (FileName.Segment listed.number) ≢ Some None) }
     ensures device { IfErr result (λ e. e ≡ Device → S.can_fail shelf.old) }
     ensures same { (q : FileName) → S.bytes shelf.new q ≡ S.bytes shelf.old q }
     ensures crash { (q : FileName) → NoMore (S.may_leave shelf.old q) (S.may_leave shelf.new q) }

@@ -1,6 +1,7 @@
 //! All listed segments, read from their files.
-ghost use Rattle.std.specs.Prelude.{◌≡◌, List, IfOk, IfErr};
-ghost use Rattle.cat_base.specs.declared.refusal.Refusal.TheVariants.{Device, Damaged};
+ghost use Rattle.std.specs.Prelude.{◌≡◌, ◌≢◌, ◌<◌, List, length, Some, None, IfOk, IfErr};
+ghost use Rattle.std.specs.List.{HoldsAt};
+ghost use Rattle.cat_base.specs.declared.refusal.Refusal.TheVariants.{Device, Damaged, Memory};
 ghost use Rattle.cat_directory.specs.Devices.{CountsReading, NoMore};
 ghost use Rattle.cat_model.specs.View as model;
 ghost use Rattle.cat_ledger_laws.specs.model.Opening.{AreLeavesOf};
@@ -17,6 +18,9 @@ use std::alloc::Global;
 
 /// The leaves of the listed segments, in order; [`Refusal::Damaged`] where the files of one hold none. A file's bytes are
 /// let go before the next is read.
+///
+/// Memory is taken only once the first file was found, so that want of it never hides that this one is absent. Which segment
+/// it was wanting for isn't told, so that of the others nothing more is known.
 pub(crate) fn read_leaves<S: Shelf>(
     alloc: Global,
     shelf: &mut S,
@@ -26,13 +30,15 @@ pub(crate) fn read_leaves<S: Shelf>(
     ensures ok { IfOk result (λ v. AreLeavesOf (MayHold (S.bytes shelf.old)) schema.now listed.now v.items) }
     ensures damaged { IfErr result (λ e. e ≡ Damaged → (leaves : List model.Leaf)
         → AreLeavesOf (Tells (S.bytes shelf.old)) schema.now listed.now leaves → ⊥) }
+    ensures due { IfErr result (λ e. e ≡ Memory → (0 < length listed.now)
+        × HoldsAt (λ x. S.bytes shelf.old (FileName.Segment x.number) ≢ Some None) listed.now 0) }
     ensures device { IfErr result (λ e. e ≡ Device → S.can_fail shelf.old) }
     ensures same { (q : FileName) → S.bytes shelf.new q ≡ S.bytes shelf.old q }
     ensures crash { (q : FileName) → NoMore (S.may_leave shelf.old q) (S.may_leave shelf.new q) }
     ensures can { S.can_fail shelf.new → S.can_fail shelf.old }
     ensures counted { CountsReading (S.fault_count shelf.old) (S.fault_count shelf.new) result }
 {
-    let mut leaves = Vec::with_capacity(alloc, listed.len())?;
+    let mut leaves = Vec::new(alloc);
     for segment in listed {
         let leaf = read_leaf(alloc, shelf, schema, *segment)?;
         leaves.push(leaf)?;

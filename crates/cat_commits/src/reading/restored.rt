@@ -99,8 +99,11 @@ fn agree(alloc: Global, commit: &Commit, leaves: &[Leaf]) -> Result<bool, AllocE
 ///
 /// [`Refusal::Damaged`] exactly where a device that tells all its files holds no such commit under the schema, and
 /// [`Refusal::Kind`] where it holds one under another; that is judged before a file of a segment is read.
-/// [`Refusal::Device`] where the device failed. [`Refusal::Memory`] comes at the place where memory was refused: not where
-/// the commit's own file is absent. The files stay as they are.
+/// [`Refusal::Device`] where the device failed. The files stay as they are.
+///
+/// [`Refusal::Memory`] comes at the place where memory was refused, and no file that was looked for before is absent. Who is
+/// told it doesn't know the place, so the contract says this of the commit's own file alone: to read that takes memory, and
+/// where it is refused nothing is known of the files that the commit lists.
 pub fn read_commit<S: Shelf>(
     alloc: Global,
     shelf: &mut S,

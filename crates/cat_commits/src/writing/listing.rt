@@ -59,22 +59,11 @@ impl Listing {
 
     /// What the commit of the generation lists of the leaves, after the one that lists this. A leaf whose rows are all live
     /// has no live file; one whose live set is what was listed keeps the file of that; and each other gets a new one, of the
-    /// generation. Live sets are shared. (Lucene: `ReadersAndUpdates.writeLiveDocs`, as `IndexWriter.prepareCommit` has it.)
+    /// generation. Live sets are shared. With it come the names of the files that may not last yet: those of each segment that
+    /// isn't listed here, and each new live file. (Lucene: `ReadersAndUpdates.writeLiveDocs`, as `IndexWriter.prepareCommit` has
+    /// it.)
     ///
     /// It takes one look for each leaf, and compares its live set with what was listed, up to the first words that differ.
-    pub fn next(&self, leaves: &[Leaf], generation: Generation) -> Result<Self, AllocError>
-        requires apart { AllPairs (λ a b. a.number ≢ b.number) self.now }
-        requires some { 0 < generation }
-        ensures ok { IfOk result (λ l. l ≡ listing_after self.now generation leaves.now) }
-    {
-        let alloc = *self.entries.allocator();
-        let indices = indices_of(alloc, &self.entries)?;
-        let entries = entries_next(alloc, &self.entries, &indices, leaves, generation)?;
-        Ok(Listing { entries })
-    }
-
-    /// The same, with the names of the files that may not last yet: those of each segment that isn't listed here, and each new
-    /// live file.
     pub(crate) fn next_with_unsynced(
         &self,
         leaves: &[Leaf],

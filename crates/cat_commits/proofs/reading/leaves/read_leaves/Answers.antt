@@ -1,22 +1,41 @@
-use Rattle.std.proofs.Common.{◌≡◌, List, sym, subst, ◌∙◌, rules}
+use Rattle.std.proofs.Common.{◌≡◌, ◌≢◌, ◌<◌, List, Some, None, length, sym, subst, ◌∙◌, rules}
+use Rattle.std.specs.List.{HoldsAt}
 use Rattle.cat_base.specs.declared.refusal.Refusal.{Refusal}
-use Rattle.cat_base.specs.declared.refusal.Refusal.TheVariants.{Damaged}
+use Rattle.cat_base.specs.declared.refusal.Refusal.TheVariants.{Damaged, Memory}
+use Rattle.cat_directory.specs.declared.name.FileName.TheVariants as file
 use Rattle.cat_model.specs.CommitFile.{ListedSegment}
 use Rattle.cat_model.specs.View as model
 use Rattle.cat_ledger_laws.specs.model.Opening.{IsLeafOf, AreLeavesOf}
 use Rattle.cat_ledger_laws.specs.shape.OpeningLaws.{MayHold}
 use Rattle.cat_commits.specs.reading.Told.{Tells}
-use Rattle.cat_commits.proofs.reading.Reading.{passed}
-use Rattle.cat_commits.proofs.reading.Parts.{as_one, leaf_refuted, leaves_next}
+use Rattle.cat_commits.proofs.reading.Reading.{any_fault, passed}
+use Rattle.cat_commits.proofs.reading.Parts.{as_one, first_there, leaf_refuted, leaf_there, leaves_next}
 use Rattle.cat_commits.proofs.reading.leaves.read_leaves.Goals as goal
 
 pub returns-in_err-leaf-clause-damaged : goal.returns-in_err-leaf-clause-damaged
 returns-in_err-leaf-clause-damaged g c =
-    passed (λ (e : Refusal). e ≡ Damaged → (leaves : List model.Leaf) → AreLeavesOf (Tells (g.S.Holder.bytes c.args.shelf.now)) c.args.schema.now c.args.listed.now leaves → ⊥) _ _ c.from_residual-in_err-leaf.ensures
+    passed (λ (e : Refusal). e ≡ Damaged → (leaves : List model.Leaf) → AreLeavesOf (Tells (g.S.Holder.bytes c.args.shelf.now)) c.args.schema.now c.args.listed.now leaves → ⊥) _ _ c.from_residual.ensures
     (λ is leaves k.
     leaf_refuted (g.S.Holder.bytes c.args.shelf.now) (g.S.Holder.bytes c.loop-segment.shelf) c.args.schema.now c.args.listed.now leaves c.loop-segment.segment-index c.segment-item.result c.loop-segment-test.true
     (as_one (g.S.Holder.bytes c.args.shelf.now) (g.S.Holder.bytes c.loop-segment.shelf) c.loop-segment.invariant.same)
     (λ l h. c.in_err-leaf.ensures.damaged is l (subst (λ (x : ListedSegment). IsLeafOf (Tells (g.S.Holder.bytes c.loop-segment.shelf)) c.args.schema.now x l) (sym c.segment-item.is) h)) k)
+
+pub returns-in_err-leaf-clause-due : goal.returns-in_err-leaf-clause-due
+returns-in_err-leaf-clause-due g c =
+    passed (λ (e : Refusal). e ≡ Memory → (0 < length c.args.listed.now) × HoldsAt (λ (x : ListedSegment). g.S.Holder.bytes c.args.shelf.now (file.Segment x.number) ≢ Some None) c.args.listed.now 0) _ _ c.from_residual.ensures
+    (λ is.
+    first_there (g.S.Holder.bytes c.args.shelf.now) (g.S.Holder.bytes c.loop-segment.shelf) c.args.schema.now c.args.listed.now c.loop-segment.leaves.items c.loop-segment.segment-index c.segment-item.result c.loop-segment-test.true
+    (as_one (g.S.Holder.bytes c.args.shelf.now) (g.S.Holder.bytes c.loop-segment.shelf) c.loop-segment.invariant.same) c.loop-segment.invariant.read
+    (subst (λ (x : ListedSegment). g.S.Holder.bytes c.loop-segment.shelf (file.Segment x.number) ≢ Some None) c.segment-item.is (c.in_err-leaf.ensures.due is)))
+
+pub returns-in_err-push-clause-due : goal.returns-in_err-push-clause-due
+returns-in_err-push-clause-due g c =
+    any_fault (λ (e : Refusal). e ≡ Memory → (0 < length c.args.listed.now) × HoldsAt (λ (x : ListedSegment). g.S.Holder.bytes c.args.shelf.now (file.Segment x.number) ≢ Some None) c.args.listed.now 0) _
+    (λ e is.
+    first_there (g.S.Holder.bytes c.args.shelf.now) (g.S.Holder.bytes c.loop-segment.shelf) c.args.schema.now c.args.listed.now c.loop-segment.leaves.items c.loop-segment.segment-index c.segment-item.result c.loop-segment-test.true
+    (as_one (g.S.Holder.bytes c.args.shelf.now) (g.S.Holder.bytes c.loop-segment.shelf) c.loop-segment.invariant.same) c.loop-segment.invariant.read
+    (subst (λ (x : ListedSegment). g.S.Holder.bytes c.loop-segment.shelf (file.Segment x.number) ≢ Some None) c.segment-item.is
+    (leaf_there (g.S.Holder.bytes c.loop-segment.shelf) c.args.schema.now c.segment-item.result c.in_ok-leaf.leaf c.in_ok-leaf.ensures.ok)))
 
 pub loop-segment-preserved : goal.loop-segment-preserved
 loop-segment-preserved g c = record {
