@@ -1,6 +1,7 @@
 -- What was found of files that no call between has changed.
-use Rattle.std.proofs.Common.{◌≡◌, ℕ, Bool, true, false, List, [], ◌∷◌, ◌++◌, get_or, Option, Some, None, Result, Ok, Err, IfOk, sym, subst}
-use Rattle.std.specs.Prelude.{All, MatchBool}
+use Rattle.std.proofs.Common.{◌≡◌, ◌∙◌, ℕ, ◌+◌, ◌<◌, Bool, true, false, List, [], ◌∷◌, ◌++◌, get_or, length, take, Option, Some, None, Result, Ok, Err, IfOk, ap, sym, subst}
+use Rattle.std.specs.Prelude.{All, MatchBool, map}
+use Rattle.std.proofs.lemmas.List.{map_push, take_more}
 use Rattle.std.proofs.lemmas.List.Elements.{All-push}
 use Rattle.cat_directory.specs.declared.name.FileName.{FileName}
 use Rattle.cat_ledger_laws.specs.shape.Ties.{ToldFiles}
@@ -46,6 +47,13 @@ pub one_more : (told now : ToldFiles) (can could : Type 0) (g : ℕ) (reports ne
 one_more told now can could g reports new r same f before numbered judged is =
     let own : IsJudged told could r.generation r.verdict = judged_before told now can could r.generation r.verdict same f (subst (λ (n : ℕ). IsJudged now can n r.verdict) (sym numbered) judged) in
     subst (λ (xs : List Report). AreJudged told could xs) (sym is) (All-push (λ (x : Report). IsJudged told could x.generation x.verdict) reports r before own)
+
+-- and it is of the next generation
+pub one_more_each : (reports new : List Report) (r : Report) (generations : List ℕ) (i d : ℕ) → i < length generations → r.generation ≡ get_or generations i d
+    → map (λ (x : Report). x.generation) reports ≡ take i generations → new ≡ reports ++ r ∷ [] → map (λ (x : Report). x.generation) new ≡ take (i + 1) generations
+one_more_each reports new r generations i d within numbered so_far is =
+    ap (map (λ (x : Report). x.generation)) is ∙ map_push (λ (x : Report). x.generation) reports r
+    ∙ ap (λ (xs : List ℕ). xs ++ r.generation ∷ []) so_far ∙ ap (λ (n : ℕ). take i generations ++ n ∷ []) numbered ∙ sym (take_more generations i d within)
 
 -- the report of the newest commit
 pub newest_before : (told now : ToldFiles) (can could : Type 0) (names : List FileName) (newest : Option Report) → now ≡ told → (can → could)

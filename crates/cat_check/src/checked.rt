@@ -1,7 +1,10 @@
 //! What is found of a directory.
-ghost use Rattle.std.specs.Prelude.{◌≡◌, All, IfOk, IfErr};
+ghost use Rattle.std.specs.Prelude.{◌≡◌, All, IfOk, IfErr, map};
+ghost use Rattle.std.specs.List.Sorted.{IsStrictlySortedBy};
 ghost use Rattle.cat_base.specs.declared.refusal.Refusal.TheVariants.{Device};
 ghost use Rattle.cat_directory.specs.Devices.{NoMore};
+ghost use Rattle.cat_directory.specs.Names.{name_cmp};
+ghost use Rattle.cat_check.specs.Below.{AreOlder};
 ghost use Rattle.cat_check.specs.Judged.{IsJudged};
 ghost use Rattle.cat_check.specs.Checked.{IsChecked, IsNewestReport};
 
@@ -49,6 +52,7 @@ fn reports_of<S: Shelf>(
     shelf: &mut S,
     generations: &[Generation],
 ) -> Result<Vec<Report>, AllocError>
+    ensures each { IfOk result (λ v. map (λ r. r.generation) v.items ≡ generations.now) }
     ensures judged { IfOk result (λ v. All (λ r. IsJudged (S.bytes shelf.old) (S.can_fail shelf.old) r.generation r.verdict) v.items) }
     ensures same { (q : FileName) → S.bytes shelf.new q ≡ S.bytes shelf.old q }
     ensures crash { (q : FileName) → NoMore (S.may_leave shelf.old q) (S.may_leave shelf.new q) }
@@ -62,12 +66,13 @@ fn reports_of<S: Shelf>(
     Ok(reports)
 }
 
-/// What is found of the commits of these names that are older than the newest.
+/// What is found of the commits of these names that are older than the newest, the newer first.
 fn older_reports<S: Shelf>(
     alloc: Global,
     shelf: &mut S,
     names: &[FileName],
 ) -> Result<Vec<Report>, AllocError>
+    ensures older { IfOk result (λ v. IsStrictlySortedBy name_cmp names.now → AreOlder names.now (map (λ r. r.generation) v.items)) }
     ensures judged { IfOk result (λ v. All (λ r. IsJudged (S.bytes shelf.old) (S.can_fail shelf.old) r.generation r.verdict) v.items) }
     ensures same { (q : FileName) → S.bytes shelf.new q ≡ S.bytes shelf.old q }
     ensures crash { (q : FileName) → NoMore (S.may_leave shelf.old q) (S.may_leave shelf.new q) }

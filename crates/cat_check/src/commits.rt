@@ -1,6 +1,6 @@
 //! The commits of a directory, by the names of its files.
-ghost use Rattle.std.specs.Prelude.{MatchOption};
-ghost use Rattle.cat_check.specs.Below.{IsNextBelow, HasNoneBelow};
+ghost use Rattle.std.specs.Prelude.{IfOk, MatchOption};
+ghost use Rattle.cat_check.specs.Below.{AreBelow, IsNextBelow, HasNoneBelow};
 
 use cat_base::Generation;
 use cat_directory::FileName;
@@ -29,7 +29,9 @@ pub(crate) fn commits_below(
     alloc: Global,
     names: &[FileName],
     bound: Generation,
-) -> Result<Vec<Generation>, AllocError> {
+) -> Result<Vec<Generation>, AllocError>
+    ensures { IfOk result (λ v. AreBelow names.now bound v.items) }
+{
     let mut generations = Vec::new(alloc);
     for name in names {
         if let FileName::Commit(generation) = *name
