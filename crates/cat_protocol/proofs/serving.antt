@@ -1,3 +1,4 @@
+pub mod Came
 pub mod Cuts
 pub mod Endings
 pub mod Steps

@@ -13,4 +13,3 @@ pub use facets::Facets;
 pub use find::Find;
 pub use line::Line;
 pub use schema_line::SchemaLine;
-pub use sort::Sort;

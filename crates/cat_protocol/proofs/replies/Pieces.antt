@@ -11,7 +11,6 @@ use Rattle.cat_model.specs.Facets.{Counted}
 use Rattle.cat_model.specs.Served.{AppendsFront}
 use Rattle.cat_directory.specs.Names.{file_text}
 use Rattle.cat_directory.specs.declared.name.FileName.{FileName}
-use Rattle.cat_directory.specs.declared.name.FileName.TheVariants.{Live}
 use Rattle.cat_protocol.specs.sending.Out.{PassesOn}
 use Rattle.cat_protocol.proofs.sending.Written.{front_before, front_behind, flat_map_more, flat_map_split, gathered_before, gathered_front, both_taken}
 use Rattle.cat_protocol.specs.replies.Reply.{segment_stat_of}
@@ -46,12 +45,6 @@ gathered_within f xs i d a b c waited waits h before part = rw (flat_map_split f
 pub gathered_more : {X : Type 0} (f : X → Text) (xs : List X) (i : ℕ) (d : X) (a b c : Option Text) (waited between waits : Text) → i < length xs
     → PassesOn a b waited between (flat_map f (take i xs)) → PassesOn b c between waits (f (get_or xs i d)) → PassesOn a c waited waits (flat_map f (take (i + 1) xs))
 gathered_more f xs i d a b c waited between waits h before now = rw (flat_map_more f xs i d h) (both_taken _ _ _ _ _ _ _ _ before now)
-
--- ---- names
-
-pub live_in_pieces : (name : FileName) (segment generation : ℕ) → name ≡ Live segment generation
-    → file_text name ≡ (codes "_" ++ (decimal segment ++ codes "_")) ++ (codes "" ++ (decimal generation ++ codes ".liv"))
-live_in_pieces name segment generation is = rw is (simp append_assoc)
 
 -- ---- the further lines
 

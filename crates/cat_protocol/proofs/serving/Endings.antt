@@ -6,13 +6,12 @@ use Rattle.std.specs.Io.KnownBytes.{Appends, Keeps, Consumes, IsAtEnd}
 use Rattle.cat_base.specs.declared.refusal.Refusal.{Refusal}
 use Rattle.cat_base.specs.declared.refusal.Refusal.TheVariants.{Memory}
 use Rattle.cat_model.specs.Text.{Text}
-use Rattle.cat_model.specs.Served as model
-use Rattle.cat_model.specs.Served.{Outcome, Ending, outcome_text, refused_text, Answered, ServesBy, IsDue}
+use Rattle.cat_model.specs.Served.{Outcome, Ending, outcome_text, refused_text, ServesBy}
 use Rattle.cat_model.specs.Input.{HaveCome, ended_lines, lines_of}
 use Rattle.cat_protocol.specs.declared.sending.pieces.WriteFault.{WriteFault}
 use Rattle.cat_protocol.proofs.sending.Written.{front_whole}
-use Rattle.cat_protocol.specs.serving.Machine.{short_line, opened_text, Steps, IsAnsweredByMachine}
-use Rattle.cat_protocol.specs.serving.Serving.{Says, SaysAll, SaysUpTo, LinesEnd, ServesLines, IsRefusedAs, IsRefused, LeadsTo, RefusedAt, EndsBy, StandsFrom, ended_as, ended_of}
+use Rattle.cat_protocol.specs.serving.Machine.{short_line, opened_text, Steps}
+use Rattle.cat_protocol.specs.serving.Serving.{Says, SaysAll, SaysUpTo, LinesEnd, ServesLines, IsRefusedAs, LeadsTo, RefusedAt, StandsFrom, ended_as, ended_of}
 use Rattle.cat_protocol.specs.declared.serving.machine.Stage.{Stage}
 use Rattle.cat_protocol.specs.declared.serving.machine.Stage.TheVariants.{Waiting, Refused, Open}
 use Rattle.cat_protocol.specs.declared.serving.machine.Unopened.{Unopened}
@@ -145,7 +144,7 @@ module _ {M S : Type 0} (opens : S → Option Text → Result M (Unopened S) →
 
   module _ (s : S) (input left : Option Text) (bytes : Text) (read : Consumes input left bytes) where
     abbrev ends : Stage M S → (before after : Option Text) → Result (Unit {0}) ServeFault → Type 0
-    ends b before after r = EndsBy (leads_to s b) (RefusedAt opens s b) input left before after (ended_as r)
+    ends b before after r = ServesBy (leads_to s b) (RefusedAt opens s b) input left before after (ended_as r)
 
     no_lines : bytes ≡ [] → HaveCome bytes left []
     no_lines none = subst (HaveCome bytes left) (ap ended_lines none) HaveCome.ended
@@ -192,28 +191,6 @@ module _ {M S : Type 0} (opens : S → Option Text → Result M (Unopened S) →
     ends_unbuffered none o p fault.Read so = absurd so
     ends_unbuffered none o p fault.Write so = (bytes, read, [], no_lines none, refused_text Memory, inr (Memory, (refl, refl), refl), so)
 
-  -- ---- the same, whatever the stage
-
-  some_answer : (s : S) (b : Stage M S) (lines : List Text) (t : Text) → leads_to s b lines t → Answered (IsAnsweredByMachine (opens s) step token) lines t
-  some_answer s b [] t so = so.1
-  some_answer s b (first ∷ lines) t so = so.0
-
-  some_refusal : (s : S) (b : Stage M S) (lines : List Text) (e : Refusal) → RefusedAt opens s b lines e → model.Refused (IsRefused (opens s)) lines e
-  some_refusal s b [] e so = so.1
-  some_refusal s b (first ∷ lines) e so = inr (so.0, so.1)
-
-  some_due : (s : S) (b : Stage M S) (lines : List Text) (t : Text) → is_due s b lines t → IsDue (IsAnsweredByMachine (opens s) step token) (IsRefused (opens s)) lines t
-  some_due s b lines t (inl so) = inl (so.0, so.1, so.2, some_answer s b so.0 t so.3)
-  some_due s b lines t (inr so) = inr (so.0, some_refusal s b lines so.0 so.1, so.2)
-
-  -- what ends at a stage serves
-  pub serves_at : (s : S) (b : Stage M S) (input left o p : Option Text) (r : Result (Unit {0}) Ending) → EndsBy (leads_to s b) (RefusedAt opens s b) input left o p r
-      → ServesBy (IsAnsweredByMachine (opens s) step token) (IsRefused (opens s)) input left o p r
-  serves_at s b input left o p (Ok u) so = (so.0, so.1, so.2, so.3, some_answer s b (lines_of so.0) so.3 so.4, so.5)
-  serves_at s b input left o p (Err Ending.schema) so = (so.0, so.1, so.2, so.3, so.4, some_refusal s b so.2 so.4 so.5, so.6)
-  serves_at s b input left o p (Err Ending.read) so = (so.0, so.1, so.2, some_answer s b (ended_lines so.0) so.2 so.3, so.4)
-  serves_at s b input left o p (Err Ending.write) so = (so.0, so.1, so.2, so.3, so.4, some_due s b so.2 so.4 so.5, so.6)
-
   -- ---- the stage alone
 
   abbrev stands : S → Stage M S → Type 0
@@ -232,7 +209,7 @@ module _ {M S : Type 0} (opens : S → Option Text → Result M (Unopened S) →
   stands_due s b lines t (inr so) = given_back s b lines so.0 so.1
 
   -- what ends at a stage stands there
-  pub stands_at : (s : S) (b : Stage M S) (input left o p : Option Text) (r : Result (Unit {0}) Ending) → EndsBy (leads_to s b) (RefusedAt opens s b) input left o p r → stands s b
+  pub stands_at : (s : S) (b : Stage M S) (input left o p : Option Text) (r : Result (Unit {0}) Ending) → ServesBy (leads_to s b) (RefusedAt opens s b) input left o p r → stands s b
   stands_at s b input left o p (Ok u) so = led s b (lines_of so.0) so.3 so.4
   stands_at s b input left o p (Err Ending.schema) so = given_back s b so.2 so.4 so.5
   stands_at s b input left o p (Err Ending.read) so = led s b (ended_lines so.0) so.2 so.3

@@ -3,7 +3,7 @@ use Rattle.std.proofs.Common.{◌≡◌, false, List, [], ◌∷◌, ◌++◌, l
 use Rattle.std.specs.Prelude.{◌==◌, Option, Result, Ok, Err, OnOk, take}
 use Rattle.std.specs.Io.KnownBytes.{Keeps}
 use Rattle.std.proofs.KnownBytes.{Appends-trans, Appends-kept}
-use Rattle.cat_model.specs.Text.{Text, one_or_none}
+use Rattle.cat_model.specs.Text.{Text}
 use Rattle.cat_model.specs.Input.{ended_lines, rest_after, lines_of}
 use Rattle.cat_protocol.specs.sending.Out.{Sent}
 use Rattle.cat_protocol.specs.declared.sending.pieces.WriteFault.{WriteFault}

@@ -1,19 +1,11 @@
 -- What a line that was read says.
 use Rattle.std.specs.Prelude.{ℕ, Option, Some, None}
 use Rattle.cat_model.specs.Text.{Text}
-use Rattle.cat_model.specs.Page as model
 use Rattle.cat_model.specs.Run.{Chore}
 use Rattle.cat_model.specs.Lines.{Said, SpellsSaid, ShowsSession, SpellsLine}
-use Rattle.cat_protocol.specs.declared.lines.sort.Sort.{Sort}
-use Rattle.cat_protocol.specs.declared.lines.sort.Sort.TheVariants as sort
+use Rattle.cat_facets.specs.cat_search.Sorts.{sort_of}
 use Rattle.cat_protocol.specs.declared.lines.command.Command.{Command}
 use Rattle.cat_protocol.specs.declared.lines.command.Command.TheVariants as command
-
--- what a sort says
-abbrev pub sort_said : Sort → model.Sort
-sort_said sort.Added = model.Sort.added
-sort_said (sort.Rising name) = model.Sort.rising name.now
-sort_said (sort.Falling name) = model.Sort.falling name.now
 
 -- what the command says, if it has a form
 abbrev pub said_of : Command → Option Said
@@ -25,7 +17,7 @@ said_of command.Refresh = Some Said.refresh
 said_of (command.Open None) = Some Said.open_newest
 said_of (command.Open (Some token)) = Some (Said.open_at token)
 said_of (command.Close token) = Some (Said.close token)
-said_of (command.Find f) = Some (Said.find f.token f.count (sort_said f.sort) f.mark f.query.now)
+said_of (command.Find f) = Some (Said.find f.token f.count (sort_of f.sort) f.mark f.query.now)
 said_of (command.Facets f) = Some (Said.facets f.token f.dimension.now f.count f.query.now)
 said_of (command.Get token id) = Some (Said.get token id.now)
 said_of (command.FilesOfToken token) = Some (Said.files_of_token token)

@@ -1,10 +1,13 @@
 -- How a machine that its first line opens is served: what is said to its lines one after another, and how that ends.
-use Rattle.std.specs.Prelude.{◌≡◌, ◌≤◌, ◌⊎◌, ℕ, Option, Result, Ok, Err, List, [], ◌∷◌, ◌++◌, length, take}
+use Rattle.std.specs.Prelude.{◌≡◌, ◌≤◌, ℕ, zero, suc, Option, Result, Ok, Err, List, [], ◌∷◌, ◌++◌, length, take}
+use Rattle.std.specs.declared.io.Error.{Error}
+use Rattle.std.specs.declared.io.ErrorKind.{ErrorKind}
+use Rattle.std.specs.declared.io.ErrorKind.TheVariants.{Interrupted}
+use Rattle.std.specs.IoError.{error_kind}
 use Rattle.std.specs.Io.KnownBytes.{Appends, Consumes, IsAtEnd, Keeps}
 use Rattle.cat_base.specs.declared.refusal.Refusal.{Refusal}
 use Rattle.cat_base.specs.declared.refusal.Refusal.TheVariants.{Memory}
 use Rattle.cat_model.specs.Text.{Text, one_or_none}
-use Rattle.cat_model.specs.Input.{ended_lines, lines_of, HaveCome}
 use Rattle.cat_model.specs.Served.{Outcome, outcome_text, refused_text, AppendsFront, Ending}
 use Rattle.cat_protocol.specs.declared.sending.pieces.WriteFault.{WriteFault}
 use Rattle.cat_protocol.specs.serving.Machine.{short_line, opened_text, IsAnsweredByMachine, Steps}
@@ -26,6 +29,17 @@ ended_as (Err fault.Write) = Err Ending.write
 abbrev pub ended_of : Result (Unit {0}) WriteFault → Result (Unit {0}) ServeFault
 ended_of (Ok u) = Ok u
 ended_of (Err e) = Err fault.Write
+
+-- what a call of the reader brought that fails so: nothing where a signal interrupted it, which is no fault
+abbrev pub came_at : ErrorKind → Came
+came_at Interrupted = came.Nothing
+came_at kind = came.Fault
+
+-- what a call of the reader brought that answers so: no bytes are the end
+abbrev pub came_by : Result ℕ Error → Came
+came_by (Ok zero) = came.End
+came_by (Ok (suc n)) = came.Bytes (suc n)
+came_by (Err e) = came_at (error_kind e)
 
 -- what one call of the reader brought
 abbrev pub Comes : (input left : Option Text) → Text → Came → Type 0
@@ -128,10 +142,6 @@ StandsFrom {M = M} opens step seed (Open left) =
     (line : Option Text) × (opened : M) × opens seed line (Ok opened)
     × (lines : List (Option Text)) × (outcomes : List Outcome) × Steps step opened lines outcomes left
 
--- a first line is refused, and a seed is given back
-abbrev pub IsRefused : {M S : Type 0} → (Option Text → Result M (Unopened S) → Type 0) → Text → Refusal → Type 0
-IsRefused {S = S} opens first e = (back : S) × opens (short_line first) (Err (record { refusal = e; seed = back }))
-
 -- The text answers the lines, and the stage is what they lead to: the first opened the machine, and each line behind it
 -- was one step. Where none has come, the seed waits as it was.
 abbrev pub LeadsTo : {M S : Type 0} → (S → Option Text → Result M (Unopened S) → Type 0)
@@ -147,27 +157,3 @@ abbrev pub RefusedAt : {M S : Type 0} → (S → Option Text → Result M (Unope
 RefusedAt opens seed stage [] e = (stage ≡ Waiting seed) × (e ≡ Memory)
 RefusedAt {S = S} opens seed stage (first ∷ lines) e =
     (back : S) × opens seed (short_line first) (Err (record { refusal = e; seed = back })) × (stage ≡ Refused back)
-
--- How serving ends, by two relations: the texts that answer lines, and the refusals that lines may get. The reader goes
--- from `input` to `left`, the writer from `before` to `after`.
-abbrev pub EndsBy : (List Text → Text → Type 0) → (List Text → Refusal → Type 0) → (input left before after : Option Text)
-    → Result (Unit {0}) Ending → Type 0
--- the input is at its end, and all its lines are answered
-EndsBy answered refused input left before after (Ok u) =
-    (bytes : Text) × Consumes input left bytes × IsAtEnd left
-    × (text : Text) × answered (lines_of bytes) text × Appends before after text
--- the first line is refused, and the refusal is all that is said
-EndsBy answered refused input left before after (Err Ending.schema) =
-    (bytes : Text) × Consumes input left bytes × (lines : List Text) × HaveCome bytes left lines
-    × (e : Refusal) × refused lines e × Appends before after (refused_text e)
--- the lines that had ended are answered
-EndsBy answered refused input left before after (Err Ending.read) =
-    (bytes : Text) × Consumes input left bytes
-    × (text : Text) × answered (ended_lines bytes) text × Appends before after text
--- a front went out of what answers the first of the lines that had come, or of a refusal
-EndsBy answered refused input left before after (Err Ending.write) =
-    (bytes : Text) × Consumes input left bytes × (lines : List Text) × HaveCome bytes left lines
-    × (text : Text)
-    × (((first others : List Text) × (first ++ others ≡ lines) × answered first text)
-    ⊎ ((e : Refusal) × refused lines e × (text ≡ refused_text e)))
-    × AppendsFront before after text

@@ -2,12 +2,13 @@
 ghost use Rattle.std.specs.Prelude.{ℕ, Option, IfSome, IfNone};
 ghost use Rattle.cat_model.specs.Text.{Text};
 ghost use Rattle.cat_model.specs.Page as model;
-ghost use Rattle.cat_protocol.specs.lines.Line.{sort_said};
+ghost use Rattle.cat_facets.specs.cat_search.Sorts.{sort_of};
 ghost use Rattle.cat_protocol.specs.lines.Words.{SpellsFind};
 
-use crate::lines::sort::{Sort, split_sort};
+use crate::lines::sort::split_sort;
 use crate::lines::words::{split_mark, split_number};
 use cat_base::{Token, WriteNo};
+use cat_facets::cat_search::Sort;
 
 /// What a FIND asks for, as it came (Lucene: the arguments of `IndexSearcher.searchAfter`).
 #[derive(Clone, Copy, Debug, PartialEq, Eq)]
@@ -25,7 +26,7 @@ pub struct Find<'a> {
 impl<'a> Find<'a> {
     /// Reads `<token> <count> <sort> <mark> <query>`; the query may be empty.
     pub(crate) fn read(text: &'a str) -> Option<Find<'a>>
-        ensures found { IfSome result (λ f. SpellsFind text.now f.token f.count (sort_said f.sort) f.mark f.query.now) }
+        ensures found { IfSome result (λ f. SpellsFind text.now f.token f.count (sort_of f.sort) f.mark f.query.now) }
         ensures none { IfNone result ((token count : ℕ) (sort : model.Sort) (mark : Option ℕ) (query : Text)
             → SpellsFind text.now token count sort mark query → ⊥) }
     {

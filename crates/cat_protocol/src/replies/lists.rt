@@ -166,7 +166,15 @@ fn send_each_name<W: Write>(
         (flat_map (λ name. line_text (decimal session ∷ file_text name ∷ [])) names.now) }
 {
     for name in names {
-        send_line(session, &[Word::Name(*name)], to)?;
+        send_name(session, *name, to)?;
     }
     Ok(())
+}
+
+/// Writes a line with the text of the name.
+fn send_name<W: Write>(session: SessionNo, name: FileName, to: &mut W) -> Result<(), WriteFault>
+    ensures { Sent (W.contents to.old) (W.contents to.new) result (line_text (decimal session ∷ file_text name ∷ [])) }
+{
+    let text = name.spelling();
+    send_line(session, &[Word::Plain(text.as_str().as_bytes())], to)
 }

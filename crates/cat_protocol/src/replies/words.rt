@@ -3,13 +3,11 @@ ghost use Rattle.std.specs.Prelude.{◌∷◌, ◌++◌, map};
 ghost use Rattle.std.specs.Fmt.{decimal};
 ghost use Rattle.std.specs.List.{flat_map};
 ghost use Rattle.cat_model.specs.Lines.{line_text};
-ghost use Rattle.cat_directory.specs.Names.{file_text};
 ghost use Rattle.cat_protocol.specs.sending.Out.{Gathers, Sent};
 ghost use Rattle.cat_protocol.specs.replies.Words.{word_text, behind_space};
 
 use crate::sending::{Gathered, WriteFault};
 use cat_base::SessionNo;
-use cat_directory::FileName;
 use itoa::Buffer;
 use std::io::Write;
 
@@ -24,38 +22,6 @@ pub(crate) enum Word<'a> {
     Plain(&'a [u8]),
     /// Bytes behind `=`.
     Marked(&'a [u8]),
-    /// The text of a name.
-    Name(FileName),
-}
-
-/// Adds a number between bytes.
-fn put_between<W: Write>(
-    line: &mut Gathered,
-    before: &[u8],
-    number: u64,
-    behind: &[u8],
-    to: &mut W,
-) -> Result<(), WriteFault>
-    ensures { Gathers (W.contents to.old) (W.contents to.new) line.old line.new result (before.now ++ (decimal number ++ behind.now)) }
-{
-    line.put(before, to)?;
-    line.put_number(number, to)?;
-    line.put(behind, to)
-}
-
-/// Adds the text of the name, which the name itself gives only in memory of its own.
-fn put_name<W: Write>(line: &mut Gathered, name: FileName, to: &mut W) -> Result<(), WriteFault>
-    ensures { Gathers (W.contents to.old) (W.contents to.new) line.old line.new result (file_text name) }
-{
-    match name {
-        FileName::Segment(segment) => put_between(line, b"_", segment, b".seg", to),
-        FileName::Source(segment) => put_between(line, b"_", segment, b".sto", to),
-        FileName::Live(segment, generation) => {
-            put_between(line, b"_", segment, b"_", to)?;
-            put_between(line, b"", generation, b".liv", to)
-        }
-        FileName::Commit(generation) => put_between(line, b"segments_", generation, b"", to),
-    }
 }
 
 #[inline(always)]
@@ -70,7 +36,6 @@ fn put_word<W: Write>(line: &mut Gathered, word: Word, to: &mut W) -> Result<(),
             line.put(b"=", to)?;
             line.put(bytes, to)
         }
-        Word::Name(name) => put_name(line, name, to),
     }
 }
 

@@ -1,29 +1,41 @@
 //! The pieces that a text is made of: bytes, and numbers with the bytes behind them.
-ghost use Rattle.std.specs.Prelude.{◌≤◌, ◌++◌, length, take, IfOk, OnErr};
+ghost use Rattle.std.specs.Prelude.{◌≡◌, ◌≤◌, ◌++◌, length, take, IfOk, OnErr};
 ghost use Rattle.std.specs.Fmt.{decimal};
 ghost use Rattle.std.specs.Io.KnownBytes.{Appends, Keeps};
-ghost use Rattle.cat_protocol.specs.sending.Out.{Sent};
+ghost use Rattle.cat_protocol.specs.sending.Out.{Sent, taken_by};
 
 use itoa::Buffer;
+use std::io;
 use std::io::{ErrorKind, Write};
 
 /// A write failed, or took nothing.
 #[derive(Debug, Drop)]
 pub struct WriteFault;
 
-/// One call of the writer. A call that a signal interrupts wrote nothing.
+/// How many bytes a call of the writer took that answers so: none where a signal interrupted it, which is no fault. To take
+/// none for no such reason is one.
+#[inline(always)]
+fn taken(answer: &io::Result<usize>) -> Result<usize, WriteFault>
+    ensures { result ≡ taken_by answer.now }
+{
+    match answer {
+        Ok(0) => Err(WriteFault),
+        Ok(n) => Ok(*n),
+        Err(error) => match error.kind() {
+            ErrorKind::Interrupted => Ok(0),
+            _ => Err(WriteFault),
+        },
+    }
+}
+
+/// One call of the writer.
 #[inline(always)]
 fn send_some<W: Write>(bytes: &[u8], to: &mut W) -> Result<usize, WriteFault>
     ensures bound { IfOk result (λ n. n ≤ length bytes.now) }
     ensures ok { IfOk result (λ n. Appends (W.contents to.old) (W.contents to.new) (take n bytes.now)) }
     ensures err { OnErr result (Keeps (W.contents to.old) (W.contents to.new)) }
 {
-    match to.write(bytes) {
-        Ok(0) => Err(WriteFault),
-        Ok(n) => Ok(n),
-        Err(e) if e.kind() == ErrorKind::Interrupted => Ok(0),
-        Err(_) => Err(WriteFault),
-    }
+    taken(&to.write(bytes))
 }
 
 /// Writes the bytes in as many calls as the writer asks for. One that is interrupted without end is given up.

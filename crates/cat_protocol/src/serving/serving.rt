@@ -3,15 +3,16 @@ ghost use Rattle.std.specs.Prelude.{◌≡◌, ◌<◌, ◌≤◌, true, [], ◌
 ghost use Rattle.cat_model.specs.Input.{ended_after, rest_after};
 ghost use Rattle.cat_model.specs.Served.{refused_text, ServesBy};
 ghost use Rattle.cat_protocol.specs.declared.serving.machine.Stage.TheVariants.{Waiting, Open};
-ghost use Rattle.cat_protocol.specs.serving.Machine.{short_line, stands_open, IsAnsweredByMachine};
-ghost use Rattle.cat_protocol.specs.serving.Serving.{Comes, IsReady, IsRefusedAs, Says, ServesLines, ended_as, ended_of, last_lines};
-ghost use Rattle.cat_protocol.specs.serving.Serving.{EndsBy, IsRefused, LeadsTo, RefusedAt, StandsFrom};
+ghost use Rattle.cat_protocol.specs.serving.Machine.{short_line, stands_open};
+ghost use Rattle.cat_protocol.specs.serving.Serving.{Comes, IsReady, IsRefusedAs, Says, ServesLines, came_by, ended_as, ended_of, last_lines};
+ghost use Rattle.cat_protocol.specs.serving.Serving.{LeadsTo, RefusedAt, StandsFrom};
 
 use crate::sending::{WriteFault, flush, send_opened, send_refused};
 use crate::serving::input::{MAX_GATHERED, gather, if_short, split_line, without_return};
 use crate::serving::machine::{Machine, Stage, Unopened};
 use cat_base::Refusal;
 use std::alloc::Global;
+use std::io;
 use std::io::{ErrorKind, Read, Write};
 
 /// Why serving ended before the end of the input.
@@ -272,16 +273,26 @@ enum Came {
     Fault,
 }
 
+/// What a call of the reader that answers so brought.
+fn brought(answer: &io::Result<usize>) -> Came
+    ensures { result ≡ came_by answer.now }
+{
+    match answer {
+        Ok(0) => Came::End,
+        Ok(n) => Came::Bytes(*n),
+        Err(error) => match error.kind() {
+            ErrorKind::Interrupted => Came::Nothing,
+            _ => Came::Fault,
+        },
+    }
+}
+
+/// One call of the reader.
 fn read_some<R: Read>(reader: &mut R, chunk: &mut [u8]) -> Came
     requires { 0 < length chunk.old }
     ensures { Comes (R.remaining reader.old) (R.remaining reader.new) chunk.new result }
 {
-    match reader.read(chunk) {
-        Ok(0) => Came::End,
-        Ok(n) => Came::Bytes(n),
-        Err(e) if e.kind() == ErrorKind::Interrupted => Came::Nothing,
-        Err(_) => Came::Fault,
-    }
+    brought(&reader.read(chunk))
 }
 
 /// Reads up to the end of the input, in buffers that are taken already. What was written goes out before each read, so
@@ -297,7 +308,7 @@ fn serve_within<M: Machine, R: Read, W: Write>(
     requires some { 0 < length chunk.old }
     requires room { MAX_GATHERED ≤ vec_capacity gathered.old }
     requires empty { gathered.old.items ≡ [] }
-    ensures { EndsBy (LeadsTo M.opens M.step M.token seed result.stage) (RefusedAt M.opens seed result.stage)
+    ensures { ServesBy (LeadsTo M.opens M.step M.token seed result.stage) (RefusedAt M.opens seed result.stage)
         (R.remaining reader.old) (R.remaining reader.new) (W.contents writer.old) (W.contents writer.new)
         (ended_as result.ended) }
 {
@@ -354,10 +365,7 @@ pub fn serve_machine<M: Machine, R: Read, W: Write>(
     reader: &mut R,
     writer: &mut W,
 ) -> Served<M, M::Seed>
-    ensures served { ServesBy (IsAnsweredByMachine (M.opens seed) M.step M.token) (IsRefused (M.opens seed))
-        (R.remaining reader.old) (R.remaining reader.new) (W.contents writer.old) (W.contents writer.new)
-        (ended_as result.ended) }
-    ensures ends { EndsBy (LeadsTo M.opens M.step M.token seed result.stage) (RefusedAt M.opens seed result.stage)
+    ensures ends { ServesBy (LeadsTo M.opens M.step M.token seed result.stage) (RefusedAt M.opens seed result.stage)
         (R.remaining reader.old) (R.remaining reader.new) (W.contents writer.old) (W.contents writer.new)
         (ended_as result.ended) }
     ensures stage { StandsFrom M.opens M.step seed result.stage }

@@ -2,7 +2,7 @@ use Rattle.cat_protocol.proofs.sending.Written.{sent_at_fault}
 use Rattle.cat_protocol.proofs.replies.Pieces.{front_within, name_line}
 use Rattle.cat_protocol.proofs.replies.lists.send_each_name.Goals as goal
 
-pub returns-in_err-send_line : goal.returns-in_err-send_line
-returns-in_err-send_line g c =
+pub returns-in_err-send_name : goal.returns-in_err-send_name
+returns-in_err-send_name g c =
     sent_at_fault _ c.from_residual.ensures.0
-    (front_within (name_line c.args.session) c.args.names.now c.loop-name.name-index _ _ _ _ c.loop-name-test.true c.loop-name.invariant c.in_err-send_line.ensures)
+    (front_within (name_line c.args.session) c.args.names.now c.loop-name.name-index _ _ _ _ c.loop-name-test.true c.loop-name.invariant c.in_err-send_name.ensures)
