@@ -140,6 +140,10 @@ none_under schema making none = subst (MergesUnder schema) (sym none) tt
 
 -- ---- what a step may copy
 
+-- so of the merge, as memory has it
+pub of_merge : (P : Option MergingShape → Type 0) (merging : Option InMaking) (m : InMaking) → merging ≡ Some m → P (Some m.shape) → P (option_map (λ m. m.shape) merging)
+of_merge P merging m some so = subst (λ (o : Option InMaking). P (option_map (λ m. m.shape) o)) (sym some) so
+
 pub may_copy : (told : ToldFiles) (merging : Option InMaking) (m : InMaking) → merging ≡ Some m → MayReachSources m.shape told → MayCopy told (option_map (λ m. m.shape) merging)
 may_copy told merging m some reach = subst (λ (o : Option InMaking). MayCopy told (option_map (λ m. m.shape) o)) (sym some) (λ left. reach)
 

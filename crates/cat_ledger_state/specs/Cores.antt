@@ -1,5 +1,5 @@
 -- What memory has of a ledger, as a shape; what always holds of it; and what a flush or a refusal makes of it and of the device.
-use Rattle.std.specs.Prelude.{◌≡◌, ◌≢◌, ◌⊎◌, ◌<◌, ◌≤◌, Bool, true, List, [], ◌∷◌, length, Option, Some, None, option_map}
+use Rattle.std.specs.Prelude.{◌≡◌, ◌≢◌, ◌⊎◌, ◌<◌, ◌≤◌, Bool, true, List, [], ◌∷◌, length, Option, Some, None, option_map, Any}
 use Rattle.cat_model.specs.Files.{Name}
 use Rattle.cat_model.specs.Item.{Schema}
 use Rattle.cat_model.specs.Limits.{last_number, segment_limit}
@@ -13,7 +13,7 @@ use Rattle.cat_ledger_laws.specs.shape.MergeLaws.{CopiesOn}
 use Rattle.cat_ledger_laws.specs.shape.Ties.{ToldFiles, TouchesOnly, TouchesNothing}
 use Rattle.cat_ledger_laws.specs.shape.WriteLaws.{WritesFlush}
 use Rattle.cat_merge.specs.files.Making.{InMaking}
-use Rattle.cat_merge.specs.files.Sources.{MayReachSources}
+use Rattle.cat_merge.specs.files.Sources.{LacksBytes, LacksSources, MayReachSources}
 use Rattle.cat_lifetimes.specs.records.Records.{Records}
 use Rattle.cat_ledger_state.specs.declared.state.Core.TheInside.{Inside}
 
@@ -106,3 +106,18 @@ IsSourceOf (Some m) q = q ≡ FileName.Source m.number
 abbrev pub MayCopy : ToldFiles → Option MergingShape → Type 0
 MayCopy told None = Unit {0}
 MayCopy told (Some m) = m.passed < length (rows_of_all m.inputs) → MayReachSources m told
+
+-- A merge is in the making, and one of the sources that its next step is to copy isn't in the file of its segment, where that is told.
+abbrev pub LacksToCopy : ToldFiles → Option MergingShape → Type 0
+LacksToCopy told None = ⊥
+LacksToCopy told (Some m) = LacksSources m told
+
+-- A merge is in the making, and of one of the segments that it takes the file with sources lacks bytes, where that is told.
+abbrev pub LacksInput : ToldFiles → Option MergingShape → Type 0
+LacksInput told None = ⊥
+LacksInput told (Some m) = Any (LacksBytes told) m.inputs
+
+-- A merge is in the making, and its own file of sources is told to be absent.
+abbrev pub LacksOwn : ToldFiles → Option MergingShape → Type 0
+LacksOwn told None = ⊥
+LacksOwn told (Some m) = told (FileName.Source m.number) ≡ Some None

@@ -2,7 +2,7 @@
 //!
 //! Lucene's `IndexWriter.merge` (`mergeInit`, `mergeMiddle`). When one is due, and of which segments, is left to who asks.
 ghost use Rattle.std.specs.Prelude.{◌≡◌, ◌≢◌, ◌⊎◌, ◌+◌, ◌<◌, ◌≤◌, ◌^◌, [], ◌∷◌, length, take, drop, Some, None, IfErr, OnOk, OnErr};
-ghost use Rattle.cat_base.specs.declared.refusal.Refusal.TheVariants.{Memory, Device, Spent};
+ghost use Rattle.cat_base.specs.declared.refusal.Refusal.TheVariants.{Damaged, Memory, Device, Spent};
 ghost use Rattle.cat_model.specs.Files.{Name};
 ghost use Rattle.cat_model.specs.Limits.{last_number, row_limit};
 ghost use Rattle.cat_model.specs.Merged.{rows_of_all};
@@ -11,7 +11,7 @@ ghost use Rattle.cat_directory.specs.declared.name.FileName.{FileName};
 ghost use Rattle.cat_ledger_laws.specs.model.Users.{users_of, times, Changes};
 ghost use Rattle.cat_ledger_laws.specs.shape.Steps.{IsBegun};
 ghost use Rattle.cat_ledger_laws.specs.shape.Ties.{IsTold, TouchesOnly};
-ghost use Rattle.cat_ledger_state.specs.Cores.{HasCopied, HasEnded, HasGivenUp, HasRowsLeft, IsSourceOf, MayCopy, StayKnown};
+ghost use Rattle.cat_ledger_state.specs.Cores.{HasCopied, HasEnded, HasGivenUp, HasRowsLeft, IsSourceOf, LacksInput, LacksOwn, LacksToCopy, MayCopy, StayKnown};
 
 use crate::state::Core;
 use cat_base::{LAST_NUMBER, MAX_RECORDS, Refusal, SegNo};
@@ -94,14 +94,17 @@ impl Core {
 
     /// Passes a step's rows of the merge in the making, which has some left (Lucene: `SegmentMerger.merge`).
     ///
-    /// [`Refusal::Damaged`] where a source isn't in the file of its segment, [`Refusal::Device`] where the device fails, or
-    /// [`Refusal::Memory`], which never hides that a source isn't in its file. Whichever comes, the merge is over, and its file
-    /// of sources pending.
+    /// [`Refusal::Damaged`] where a source that is to be copied isn't in the file of its segment, [`Refusal::Device`] where the
+    /// device fails, or the merge's own file of sources is absent, or [`Refusal::Memory`], which never hides that a source isn't
+    /// in its file. Whichever comes, the merge is over, and its file of sources pending.
     pub fn copy_rows<D: Directory + Shelf>(&mut self, device: &mut D) -> Result<(), Refusal>
         requires { HasRowsLeft self.old.merging }
         ensures ok { OnOk result (HasCopied (D.bytes device.old) self.old (D.bytes device.new) self.new) }
         ensures err { OnErr result (HasEnded (D.bytes device.old) self.old (D.bytes device.new) self.new) }
+        ensures lacking { IfErr result (λ e. e ≡ Damaged → LacksToCopy (D.bytes device.old) self.old.merging) }
+        ensures short { IfErr result (λ e. e ≡ Damaged → LacksInput (D.bytes device.old) self.old.merging) }
         ensures due { IfErr result (λ e. e ≡ Memory → MayCopy (D.bytes device.old) self.old.merging) }
+        ensures device { IfErr result (λ e. e ≡ Device → D.can_fail device.old ⊎ LacksOwn (D.bytes device.old) self.old.merging) }
         ensures crash { (q : FileName) → (IsSourceOf self.old.merging q → ⊥)
             → NoMore (D.may_leave device.old q) (D.may_leave device.new q) }
         ensures can { D.can_fail device.new → D.can_fail device.old }

@@ -1,7 +1,7 @@
 //! The sweep: the files go that nobody needs.
 //!
 //! Lucene's `IndexFileDeleter.deletePendingFiles`. When one is due is left to who asks.
-ghost use Rattle.std.specs.Prelude.{◌≡◌, ◌<◌, ◌==◌, [], false, count_by, IfOk, IfErr, ◌≤◌};
+ghost use Rattle.std.specs.Prelude.{◌≡◌, ◌<◌, ◌==◌, [], false, count_by, IfOk, IfErr, OnOk, ◌≤◌};
 ghost use Rattle.cat_base.specs.declared.refusal.Refusal.TheVariants.{Memory, Device};
 ghost use Rattle.cat_model.specs.Files.{Name};
 ghost use Rattle.cat_directory.specs.Devices.{CountsWriting, NoMore};
@@ -31,6 +31,7 @@ impl Core {
             (D.may_leave device.old) (D.may_leave device.new) }
         ensures ok { IfOk result (λ n. (n ≡ count_by (λ u. u.users == 0) self.old.users)
             × ((q : Name) → is_pending self.new.users q ≡ false)) }
+        ensures done { OnOk result (count_by (λ u. u.users == 0) self.new.users ≡ 0) }
         ensures memory { IfErr result (λ e. e ≡ Memory → (self.new ≡ self.old)
             × ((q : FileName) → D.bytes device.new q ≡ D.bytes device.old q)
             × ((q : FileName) → NoMore (D.may_leave device.old q) (D.may_leave device.new q))) }

@@ -1,8 +1,7 @@
 //! What is asked of the kept commits, which changes nothing and takes no memory.
 //!
-//! Lucene's `DirectoryReader.listCommits`, and what `SnapshotDeletionPolicy` tells of its snapshots.
+//! Lucene's `DirectoryReader.listCommits`.
 ghost use Rattle.std.specs.Prelude.{◌≡◌, ◌==◌, find, option_map};
-ghost use Rattle.cat_model.specs.State.{snapshots_in};
 ghost use Rattle.cat_ledger_laws.specs.shape.Steps.{newest_generation};
 
 use crate::kept::{commit_under, newest_of};
@@ -24,13 +23,5 @@ impl Core {
         ensures { option_map (λ c. c.now) result ≡ find (λ c. c.generation == generation) self.now.commits }
     {
         commit_under(&self.commits, generation)
-    }
-
-    /// How many snapshots of the commit are not given back: 0 also where it isn't kept (Lucene: `getSnapshotCount`, of one
-    /// commit).
-    pub fn snapshots_of(&self, generation: Generation) -> u32
-        ensures { result ≡ snapshots_in self.now.taken generation }
-    {
-        self.snapshots.count(generation)
     }
 }

@@ -1,7 +1,8 @@
 use Rattle.std.proofs.Common.{◌∙◌, refl, sym, ap, subst}
+use Rattle.std.specs.Prelude.{◌⊎◌}
 use Rattle.cat_ledger_laws.proofs.shape.MergeSteps.{copies_keep, ends_keep}
-use Rattle.cat_ledger_state.specs.Cores.{shape_of_core, HasRowsLeft, MayCopy}
-use Rattle.cat_ledger_state.proofs.Merging.{copied_is, ended_is, may_copy, still_under, none_under}
+use Rattle.cat_ledger_state.specs.Cores.{shape_of_core, HasRowsLeft, LacksInput, LacksOwn, LacksToCopy, MayCopy}
+use Rattle.cat_ledger_state.proofs.Merging.{copied_is, ended_is, may_copy, of_merge, still_under, none_under}
 use Rattle.cat_ledger_state.proofs.state.Core.copy_rows.Goals as goal
 
 pub invariant_of-self : goal.invariant_of-self
@@ -34,3 +35,22 @@ returns-in-Err-clause-due g c = λ memory.
     let told = g.D.Holder.bytes c.args.device.now in
     subst (λ s. MayCopy told s.merging) c.self.view_is (
     may_copy told c.self.inside.merging c.in-Some.merge (sym c.take.ensures.value ∙ c.in-Some.is) (c.in-Err.ensures.due memory))
+
+pub returns-in-Err-clause-lacking : goal.returns-in-Err-clause-lacking
+returns-in-Err-clause-lacking g c = λ damaged.
+    let told = g.D.Holder.bytes c.args.device.now in
+    subst (λ s. LacksToCopy told s.merging) c.self.view_is (
+    of_merge (LacksToCopy told) c.self.inside.merging c.in-Some.merge (sym c.take.ensures.value ∙ c.in-Some.is) (c.in-Err.ensures.damaged damaged))
+
+pub returns-in-Err-clause-short : goal.returns-in-Err-clause-short
+returns-in-Err-clause-short g c = λ damaged.
+    let told = g.D.Holder.bytes c.args.device.now in
+    subst (λ s. LacksInput told s.merging) c.self.view_is (
+    of_merge (LacksInput told) c.self.inside.merging c.in-Some.merge (sym c.take.ensures.value ∙ c.in-Some.is) (c.in-Err.ensures.short damaged))
+
+pub returns-in-Err-clause-device : goal.returns-in-Err-clause-device
+returns-in-Err-clause-device g c = λ device.
+    let told = g.D.Holder.bytes c.args.device.now in
+    subst (λ s. g.D.Holder.can_fail c.args.device.now ⊎ LacksOwn told s.merging) c.self.view_is (
+    of_merge (λ o. g.D.Holder.can_fail c.args.device.now ⊎ LacksOwn told o) c.self.inside.merging c.in-Some.merge (sym c.take.ensures.value ∙ c.in-Some.is)
+    (c.in-Err.ensures.device device))
