@@ -1,5 +1,13 @@
 -- What refused calls keep of what memory has: the words of a ledger's contracts from those of the core's.
-use Rattle.std.proofs.Common.{◌≡◌, List, inl, inr, refl, sym, ◌∙◌, ap, subst}
+use Rattle.std.proofs.Common.{◌≡◌, ◌⊎◌, Bool, true, false, List, length, Ok, Err, inl, inr, refl, sym, ◌∙◌, ap, subst}
+use Rattle.std.specs.Prelude.{cond, ltb}
+use Rattle.std.specs.List.{list_all}
+use Rattle.cat_base.specs.declared.refusal.Refusal.{Refusal}
+use Rattle.cat_base.specs.declared.refusal.Refusal.TheVariants.{Device, Large, Memory, Kind as WrongKind}
+use Rattle.cat_model.specs.Forms.{is_plain_byte}
+use Rattle.cat_model.specs.Heard.{commit_text_of}
+use Rattle.cat_model.specs.Limits.{commit_text_limit}
+use Rattle.cat_model.specs.Text.{Text}
 use Rattle.cat_model.specs.Files.{Name}
 use Rattle.cat_ledger_laws.specs.model.Users.{Used}
 use Rattle.cat_ledger_laws.specs.shape.Shapes.{Shape}
@@ -83,3 +91,16 @@ failed_segments told told' s new k known = record {
   buffered = ap (λ x. x.buffered) k.left.rest ∙ ap (λ x. x.buffered) k.ended.rest;
   known = known;
 }
+
+-- ---- a commit's text
+
+-- what is wrong with one is no want of memory, and no failure
+pub no_want : (t : Text) (e : Refusal) → commit_text_of t ≡ Err e → (e ≡ Memory) ⊎ (e ≡ Device) → ⊥
+no_want t e is want = by (ltb commit_text_limit (length t)) (list_all is_plain_byte t) is want
+  where
+    by : (long plain : Bool) → cond long (Err Large) (cond plain (Ok t) (Err WrongKind)) ≡ Err e → (e ≡ Memory) ⊎ (e ≡ Device) → ⊥
+    by true plain is (inl so) = absurd (let no : Large ≡ Memory = cc in cc)
+    by true plain is (inr so) = absurd (let no : Large ≡ Device = cc in cc)
+    by false true is want = absurd (let no : Ok t ≡ Err e = is in cc)
+    by false false is (inl so) = absurd (let no : WrongKind ≡ Memory = cc in cc)
+    by false false is (inr so) = absurd (let no : WrongKind ≡ Device = cc in cc)

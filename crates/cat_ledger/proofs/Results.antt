@@ -1,6 +1,6 @@
 -- What a call's result says, whichever it is.
 use Rattle.std.proofs.Common.{Err, Ok, Result}
-use Rattle.std.specs.Prelude.{IfOk, OnErr, OnOk}
+use Rattle.std.specs.Prelude.{IfErr, IfOk, OnErr, OnOk}
 
 -- it is so, whether the call succeeds or not
 pub either_way : {X E : Type 0} {P : X → Type 0} (A B : Type 0) (r : Result X E) → IfOk r P → OnErr r B → ((x : X) → P x → A) → (B → A) → A
@@ -21,3 +21,8 @@ if_ok P Q (Err e) f p = tt
 pub on_ok : {X E A B : Type 0} (r : Result X E) → (A → B) → OnOk r A → OnOk r B
 on_ok (Ok x) f a = f a
 on_ok (Err e) f a = tt
+
+-- what a refusal says, so put
+pub if_err : {X E : Type 0} (P Q : E → Type 0) (r : Result X E) → ((e : E) → P e → Q e) → IfErr r P → IfErr r Q
+if_err P Q (Ok x) f p = tt
+if_err P Q (Err e) f p = f e p

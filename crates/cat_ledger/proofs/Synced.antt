@@ -1,4 +1,5 @@
--- What a commit syncs and doesn't begin are files of segments that stand, so a device that tells of its files has them.
+-- What a commit syncs and doesn't begin are files of segments that stand, so a device that tells of its files has them. So it has the file
+-- of sources of the merge in the making.
 use Rattle.std.proofs.Common.{◌≡◌, ◌≢◌, ◌⊎◌, ℕ, Bool, true, false, ◌||◌, List, [], ◌∷◌, ◌++◌, map, Option, Some, None, refl, sym, ◌∙◌, subst, inl, inr}
 use Rattle.std.specs.List.{AllByRecursion}
 use Rattle.cat_model.specs.Files.{Name}
@@ -9,17 +10,19 @@ use Rattle.cat_model.proofs.Lists.{list_any-append}
 use Rattle.cat_directory.specs.Devices.{Told}
 use Rattle.cat_directory.specs.Names.{name_of}
 use Rattle.cat_directory.specs.declared.name.FileName.{FileName}
-use Rattle.cat_ledger_laws.specs.model.Portions.{Portion, leaf_of}
-use Rattle.cat_ledger_laws.specs.model.Stored.{FileBytes, IsStored}
+use Rattle.cat_directory.specs.declared.name.FileName.TheVariants as file
+use Rattle.cat_ledger_laws.specs.model.Portions.{Merging, Portion, leaf_of}
+use Rattle.cat_ledger_laws.specs.model.Stored.{FileBytes, IsMergeStored, IsStored}
 use Rattle.cat_ledger_laws.specs.model.Users.{has_name, same_file_name}
 use Rattle.cat_ledger_laws.proofs.model.Counted.{same_name_is}
 use Rattle.cat_ledger_laws.specs.shape.CommitLaws.{names_begun}
-use Rattle.cat_ledger_laws.specs.shape.Shapes.{ListedLive, Shape, shape_of}
+use Rattle.cat_ledger_laws.specs.shape.Shapes.{ListedLive, Shape, merging_shape, shape_of}
 use Rattle.cat_ledger_laws.specs.shape.Steps.{file_for}
-use Rattle.cat_ledger_laws.specs.shape.Ties.{Carries, IsTold, ToldFiles}
+use Rattle.cat_ledger_laws.specs.shape.Ties.{Carries, FilesAgree, IsTold, ToldFiles}
 use Rattle.cat_ledger_laws.proofs.shape.Told.{file_of_name}
 use Rattle.cat_ledger_state.specs.cat_commits.writing.Unsynced.{is_listed, new_live, new_live_of, unsynced_in, unsynced_of, unsynced_segment}
 use Rattle.cat_ledger_state.specs.Commits.{names_synced}
+use Rattle.cat_ledger_state.specs.Cores.{LacksOwn}
 use Rattle.cat_ledger.specs.Lasting.{IsCarried}
 
 either : (a b : Bool) → (a || b) ≡ true → (a ≡ true) ⊎ (b ≡ true)
@@ -94,3 +97,16 @@ synced_stands told s carried q synced begun absent =
     (subst (λ (x : Shape). has_name (name_of q) (names_begun x) ≡ false) (sym carries.shape) begun) in
     all_filled carried.1 carried.0.schema old.listed old.next_generation carried.0.portions (name_of q) carries.stored.portions has not.1
     (is_told_absent (told q) (carried.1 (name_of q)) (subst (λ n. IsTold (told n) (carried.1 (name_of q))) (file_of_name q) (carries.agrees (name_of q))) absent)
+
+own_stored : (told : ToldFiles) (files : FileBytes) (schema : Schema) (o : Option Merging) → FilesAgree told files → IsMergeStored files o
+    → LacksOwn told (merging_shape schema o) → ⊥
+own_stored told files schema None agrees stored lacks = lacks
+own_stored told files schema (Some m) agrees stored lacks =
+    filled files (Name.source m.number) _ stored (is_told_absent (told (file.Source m.number)) (files (Name.source m.number)) (agrees (Name.source m.number)) lacks)
+
+-- where the ledger is carried, no device tells that the file is absent that the merge in the making copies to
+pub own_stands : (told : ToldFiles) (s : Shape) → IsCarried told s → LacksOwn told s.merging → ⊥
+own_stands told s carried lacks =
+    let carries : Carries told s carried.0 carried.1 = carried.2 in
+    own_stored told carried.1 carried.0.schema carried.0.merging carries.agrees carries.stored.merging
+    (subst (λ (x : Shape). LacksOwn told x.merging) (sym carries.shape) lacks)

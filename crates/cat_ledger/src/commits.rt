@@ -4,7 +4,7 @@
 ghost use Rattle.cat_ledger_laws.specs.lines.LineLaws.{Commits};
 ghost use Rattle.cat_base.specs.declared.refusal.Refusal.TheVariants.{Device, Memory, NoCommit, NoSnapshot, Spent};
 ghost use Rattle.cat_ledger.specs.Histories.{Event, Goes, SparesOtherCommits};
-ghost use Rattle.cat_ledger.specs.Lasting.{IsCarried, IsLasting};
+ghost use Rattle.cat_ledger.specs.Lasting.{IsCarried, IsLasting, OwnComesLast};
 ghost use Rattle.cat_ledger.specs.Ledgers.{DoesCall, Spares, device_in, policy_in, shape_in};
 ghost use Rattle.cat_ledger.specs.Refusals.{KeepsMerge};
 ghost use Rattle.cat_ledger.specs.upkeep.Spared.{SparesCommits};
@@ -46,6 +46,8 @@ fn flush_and_commit<D: Directory>(
     ensures crash { (q : FileName) → (IsNew core.old.next_segment core.old.next_generation (name_of q) → ⊥)
         → NoMore (D.may_leave device.old q) (D.may_leave device.new q) }
     ensures commits { SparesOtherCommits core.old.next_generation (D.may_leave device.old) (D.may_leave device.new) }
+    ensures order { OwnComesLast (D.bytes device.old) (D.may_leave device.old) core.old
+        (D.bytes device.new) (D.may_leave device.new) core.new.leaves }
     ensures newest { IfOk result (λ g. newest_generation core.new.commits ≡ Some g) }
     ensures next { OnOk result (core.old.next_generation < core.new.next_generation) }
     ensures taken { OnErr result ((core.old.next_generation < core.new.next_generation)
@@ -53,6 +55,7 @@ fn flush_and_commit<D: Directory>(
     ensures lasts { OnOk result (IsLasting D.bytes D.may_leave device.old core.old
         → IsLasting D.bytes D.may_leave device.new core.new) }
     ensures spent { IfErr result (λ e. e ≡ Spent → MayNotFlush core.old) }
+    ensures due { IfErr result (λ e. (e ≡ Memory) ⊎ (e ≡ Device) → MayNotFlush core.old → ⊥) }
     ensures device { IsCarried (D.bytes device.old) core.old → IfErr result (λ e. e ≡ Device → D.can_fail device.old) }
     ensures counted { IfErr result (λ e. e ≡ Device → CountsOne (D.fault_count device.old) (D.fault_count device.new)) }
     ensures memory { IfErr result (λ e. e ≡ Memory → D.fault_count device.new ≡ D.fault_count device.old) }
@@ -74,7 +77,7 @@ fn flush_and_commit<D: Directory>(
 
 impl<D: Directory + Shelf> Ledger<D> {
     /// Keeps a commit of now with this text, and answers its generation. What waits is flushed first. All that the commit needs lasts
-    /// then. The newest commit and those with snapshots are kept; the files of others are pending where nobody else needs them.
+    /// then; its own file is begun once all that it lists does. The newest commit and those with snapshots are kept; the files of others are pending where nobody else needs them.
     /// (Lucene: `IndexWriter.commit`, after `setLiveCommitData`.)
     ///
     /// The first of these that is due comes: [`Refusal::Large`] where the text has more than 256 bytes, [`Refusal::Kind`] where it
@@ -92,9 +95,13 @@ impl<D: Directory + Shelf> Ledger<D> {
             → (result ≡ Err Spent) × (self.new ≡ self.old) }
         ensures spent { commit_text_of text.now ≡ Ok text.now → IfErr result (λ e. e ≡ Spent
             → (last_number < (shape_in self.old).next_generation) ⊎ MayNotFlush (shape_in self.old)) }
+        ensures due { IfErr result (λ e. (e ≡ Memory) ⊎ (e ≡ Device) → (commit_text_of text.now ≡ Ok text.now)
+            × ((shape_in self.old).next_generation ≤ last_number) × (MayNotFlush (shape_in self.old) → ⊥)) }
         ensures err { OnErr result (DoesCall D.bytes IsLeft self.old self.new) }
         ensures stays { OnErr result (KeepsMerge (shape_in self.old) (shape_in self.new)) }
         ensures crash { Spares D.may_leave self.old self.new }
+        ensures order { OwnComesLast (D.bytes (device_in self.old)) (D.may_leave (device_in self.old)) (shape_in self.old)
+            (D.bytes (device_in self.new)) (D.may_leave (device_in self.new)) (shape_in self.new).leaves }
         ensures refusal { commit_text_of text.now ≡ Ok text.now → IfErr result (λ e. (e ≡ Memory) ⊎ (e ≡ Device) ⊎ (e ≡ Spent)) }
         ensures device { commit_text_of text.now ≡ Ok text.now → IfErr result (λ e. e ≡ Device → D.can_fail (device_in self.old)) }
         ensures counted { commit_text_of text.now ≡ Ok text.now → IfErr result (λ e. e ≡ Device → CountsOne (D.fault_count (device_in self.old)) (D.fault_count (device_in self.new))) }

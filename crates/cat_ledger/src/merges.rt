@@ -7,12 +7,12 @@ ghost use Rattle.cat_base.specs.declared.refusal.Refusal.TheVariants.{Memory, De
 ghost use Rattle.cat_model.specs.Limits.{last_number};
 ghost use Rattle.cat_model.specs.Run.{Chore};
 ghost use Rattle.cat_ledger_laws.specs.model.Replies.{Maintains, IsLeft};
-ghost use Rattle.cat_ledger_state.specs.Cores.{HasRowsLeft, MayCopy};
+ghost use Rattle.cat_ledger_state.specs.Cores.{HasRowsLeft, LacksInput, LacksToCopy, MayCopy};
 ghost use Rattle.cat_ledger.specs.upkeep.Due.{IsForceDue, IsMergeDue};
 ghost use Rattle.cat_ledger.specs.upkeep.News.{news_of};
 ghost use Rattle.cat_ledger.specs.Histories.{Event, Goes};
 ghost use Rattle.cat_ledger.specs.Ledgers.{DoesCall, Spares, device_in, policy_in, shape_in};
-ghost use Rattle.cat_ledger.specs.Refusals.{KeepsMerge, KeepsSegments};
+ghost use Rattle.cat_ledger.specs.Refusals.{HasUntoldInput, KeepsMerge, KeepsSegments};
 
 use crate::ledger::Ledger;
 use crate::upkeep::MergeNews;
@@ -25,10 +25,10 @@ impl<D: Directory + Shelf> Ledger<D> {
     /// `IndexWriter.maybeMerge`, there to the end.)
     ///
     /// [`Refusal::Spent`] where a merge is to be begun and no number is left for its segment; [`Refusal::Damaged`] where a text
-    /// that is to be copied isn't in the file of its segment; [`Refusal::Device`] where the directory fails, or doesn't have that
-    /// file; or [`Refusal::Memory`], where the directory counted no failure, which may come before it is known whether the policy
-    /// picks any segments, and never hides that such a text isn't in its file. A merge in the making is over then, and its files
-    /// are pending; nothing is flushed.
+    /// that is to be copied isn't in the file of its segment; [`Refusal::Device`] where the directory fails; or
+    /// [`Refusal::Memory`], where the directory counted no failure, which may come before it is known whether the policy picks any
+    /// segments, and never hides that such a text isn't in its file. A merge in the making is over then, and its files are
+    /// pending; nothing is flushed.
     pub fn merge_step(&mut self) -> Result<MergeNews, Refusal>
         ensures ok { IfOk result (λ news. DoesCall D.bytes (Maintains (policy_in self.old) Chore.merge (news_of news)) self.old self.new) }
         ensures err { OnErr result (DoesCall D.bytes IsLeft self.old self.new) }
@@ -39,8 +39,11 @@ impl<D: Directory + Shelf> Ledger<D> {
         ensures left { IfErr result (λ e. (e ≡ Device) ⊎ (e ≡ Damaged) → ((shape_in self.old).merging ≢ None)
             ⊎ (IsMergeDue (policy_in self.old) (shape_in self.old) × ((shape_in self.old).next_segment ≤ last_number))) }
         ensures damaged { IfErr result (λ e. e ≡ Damaged → HasRowsLeft (shape_in self.old).merging) }
+        ensures lacking { IfErr result (λ e. e ≡ Damaged → LacksToCopy (D.bytes (device_in self.old)) (shape_in self.old).merging) }
+        ensures short { IfErr result (λ e. e ≡ Damaged → LacksInput (D.bytes (device_in self.old)) (shape_in self.old).merging) }
+        ensures untold { IfErr result (λ e. e ≡ Damaged → HasUntoldInput (D.bytes (device_in self.old)) (shape_in self.old).merging) }
         ensures reach { IfErr result (λ e. e ≡ Memory → MayCopy (D.bytes (device_in self.old)) (shape_in self.old).merging) }
-        ensures device { IfErr result (λ e. e ≡ Device → HasRowsLeft (shape_in self.old).merging ⊎ D.can_fail (device_in self.old)) }
+        ensures device { IfErr result (λ e. e ≡ Device → D.can_fail (device_in self.old)) }
         ensures counted { IfErr result (λ e. e ≡ Device → CountsOne (D.fault_count (device_in self.old)) (D.fault_count (device_in self.new))) }
         ensures memory { IfErr result (λ e. e ≡ Memory → D.fault_count (device_in self.new) ≡ D.fault_count (device_in self.old)) }
         ensures can { D.can_fail (device_in self.new) → D.can_fail (device_in self.old) }

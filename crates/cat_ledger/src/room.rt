@@ -10,7 +10,7 @@ ghost use Rattle.cat_ledger_state.specs.Cores.{HasFlushed, MayNotFlush, StayKnow
 ghost use Rattle.cat_directory.specs.Devices.{CountsOne, NoMore};
 ghost use Rattle.cat_model.specs.Limits.{buffer_limit};
 ghost use Rattle.cat_directory.specs.Names.{name_of};
-ghost use Rattle.cat_ledger.specs.upkeep.Spared.{SparesCommits};
+ghost use Rattle.cat_ledger.specs.upkeep.Spared.{SparesCommits, TouchesNoCommit};
 
 use cat_base::Refusal;
 use cat_directory::Directory;
@@ -31,6 +31,7 @@ pub(crate) fn flush<D: Directory>(core: &mut Core, device: &mut D) -> Result<(),
     ensures err { OnErr result (Makes IsLeft (D.bytes device.old) core.old (D.bytes device.new) core.new) }
     ensures crash { (q : FileName) → (IsNew core.old.next_segment core.old.next_generation (name_of q) → ⊥)
         → NoMore (D.may_leave device.old q) (D.may_leave device.new q) }
+    ensures own { TouchesNoCommit (D.bytes device.old) (D.bytes device.new) }
     ensures commits { SparesCommits (D.may_leave device.old) (D.may_leave device.new) }
     ensures spent { IfErr result (λ e. e ≡ Spent → MayNotFlush core.old) }
     ensures due { IfErr result (λ e. (e ≡ Memory) ⊎ (e ≡ Device) → MayNotFlush core.old → ⊥) }
@@ -52,6 +53,7 @@ pub(crate) fn flush<D: Directory>(core: &mut Core, device: &mut D) -> Result<(),
 pub(crate) fn make_room<D: Directory>(core: &mut Core, device: &mut D) -> Result<(), Refusal>
     ensures ok { OnOk result (Makes MakesRoom (D.bytes device.old) core.old (D.bytes device.new) core.new) }
     ensures space { OnOk result (length core.new.buffered < buffer_limit) }
+    ensures may { OnOk result (buffer_limit ≤ length core.old.buffered → MayNotFlush core.old → ⊥) }
     ensures schema { core.new.schema ≡ core.old.schema }
     ensures count { core.new.count ≡ core.old.count }
     ensures merging { core.new.merging ≡ core.old.merging }

@@ -30,6 +30,7 @@ impl<D: Directory + Shelf> Ledger<D> {
         ensures files { Swept (shape_in self.old).users (shape_in self.new).users (D.bytes (device_in self.old)) (D.bytes (device_in self.new))
             (D.may_leave (device_in self.old)) (D.may_leave (device_in self.new)) }
         ensures none { OnOk result ((q : Name) → is_pending (shape_in self.new).users q ≡ false) }
+        ensures done { OnOk result (count_by (λ u. u.users == 0) (shape_in self.new).users ≡ 0) }
         ensures memory { IfErr result (λ e. e ≡ Memory → (shape_in self.new ≡ shape_in self.old)
             × ((q : FileName) → D.bytes (device_in self.new) q ≡ D.bytes (device_in self.old) q)
             × ((q : FileName) → NoMore (D.may_leave (device_in self.old) q) (D.may_leave (device_in self.new) q))) }

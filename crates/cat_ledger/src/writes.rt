@@ -45,6 +45,8 @@ impl<D: Directory + Shelf> Ledger<D> {
             ⊎ ((buffer_limit ≤ length (shape_in self.old).buffered) × MayNotFlush (shape_in self.old))) }
         ensures due { IfErr result (λ e. (e ≡ Memory) ⊎ (e ≡ Device) → IsItem (shape_in self.old).schema item
             × ((shape_in self.old).count < last_number)) }
+        ensures room { IfErr result (λ e. (e ≡ Memory) ⊎ (e ≡ Device)
+            → buffer_limit ≤ length (shape_in self.old).buffered → MayNotFlush (shape_in self.old) → ⊥) }
         ensures err { OnErr result (DoesCall D.bytes IsLeft self.old self.new) }
         ensures stays { OnErr result (KeepsMerge (shape_in self.old) (shape_in self.new)) }
         ensures crash { Spares D.may_leave self.old self.new }

@@ -13,7 +13,7 @@ ghost use Rattle.cat_ledger_laws.specs.model.Ledger.{IsNew};
 ghost use Rattle.cat_ledger_laws.specs.model.Plans as plans;
 ghost use Rattle.cat_ledger_laws.specs.model.Replies.{Maintains, IsLeft};
 ghost use Rattle.cat_ledger_laws.specs.shape.Ties.{Makes};
-ghost use Rattle.cat_ledger_state.specs.Cores.{HasRowsLeft, MayCopy};
+ghost use Rattle.cat_ledger_state.specs.Cores.{HasRowsLeft, LacksInput, LacksOwn, LacksToCopy, MayCopy};
 ghost use Rattle.cat_ledger_state.specs.Installs.{IsOfMerge};
 ghost use Rattle.cat_ledger_laws.specs.lines.PlanLaws.{sizes_in};
 ghost use Rattle.cat_ledger.specs.Refusals.{KeepsSegments};
@@ -102,6 +102,9 @@ fn copy<D: Directory + Shelf>(core: &mut Core, device: &mut D) -> Result<usize, 
     ensures segments { OnErr result (KeepsSegments core.old core.new) }
     ensures crash { (q : FileName) → (IsOfMerge core.old.merging q → ⊥) → NoMore (D.may_leave device.old q) (D.may_leave device.new q) }
     ensures commits { SparesCommits (D.may_leave device.old) (D.may_leave device.new) }
+    ensures lacking { IfErr result (λ e. e ≡ Damaged → LacksToCopy (D.bytes device.old) core.old.merging) }
+    ensures short { IfErr result (λ e. e ≡ Damaged → LacksInput (D.bytes device.old) core.old.merging) }
+    ensures device { IfErr result (λ e. e ≡ Device → D.can_fail device.old ⊎ LacksOwn (D.bytes device.old) core.old.merging) }
     ensures counted { IfErr result (λ e. e ≡ Device → CountsOne (D.fault_count device.old) (D.fault_count device.new)) }
     ensures memory { IfErr result (λ e. e ≡ Memory → D.fault_count device.new ≡ D.fault_count device.old) }
     ensures reach { IfErr result (λ e. e ≡ Memory → MayCopy (D.bytes device.old) core.old.merging) }
@@ -153,7 +156,9 @@ fn go_on<D: Directory + Shelf>(core: &mut Core, device: &mut D) -> Result<MergeN
     ensures crash { (q : FileName) → (IsOfMerge core.old.merging q → ⊥) → NoMore (D.may_leave device.old q) (D.may_leave device.new q) }
     ensures commits { SparesCommits (D.may_leave device.old) (D.may_leave device.new) }
     ensures damaged { IfErr result (λ e. e ≡ Damaged → HasRowsLeft core.old.merging) }
-    ensures device { IfErr result (λ e. e ≡ Device → HasRowsLeft core.old.merging ⊎ D.can_fail device.old) }
+    ensures lacking { IfErr result (λ e. e ≡ Damaged → LacksToCopy (D.bytes device.old) core.old.merging) }
+    ensures short { IfErr result (λ e. e ≡ Damaged → LacksInput (D.bytes device.old) core.old.merging) }
+    ensures device { IfErr result (λ e. e ≡ Device → D.can_fail device.old ⊎ LacksOwn (D.bytes device.old) core.old.merging) }
     ensures counted { IfErr result (λ e. e ≡ Device → CountsOne (D.fault_count device.old) (D.fault_count device.new)) }
     ensures memory { IfErr result (λ e. e ≡ Memory → D.fault_count device.new ≡ D.fault_count device.old) }
     ensures reach { IfErr result (λ e. e ≡ Memory → MayCopy (D.bytes device.old) core.old.merging) }
@@ -178,9 +183,9 @@ fn go_on<D: Directory + Shelf>(core: &mut Core, device: &mut D) -> Result<MergeN
 /// `IndexWriter.maybeMerge`, there to the end.)
 ///
 /// [`Refusal::Spent`] where a merge is to be begun and no number is left for its segment; [`Refusal::Damaged`] where a text
-/// that is to be copied isn't in the file of its segment; [`Refusal::Device`] where the directory fails, or doesn't have that
-/// file; or [`Refusal::Memory`], which may come before it is known whether the policy picks any segments, and never hides that
-/// such a text isn't in its file. A merge in the making is over then, and its files are pending.
+/// that is to be copied isn't in the file of its segment; [`Refusal::Device`] where the directory fails, or the file that the
+/// merge copies to is absent; or [`Refusal::Memory`], which may come before it is known whether the policy picks any segments,
+/// and never hides that such a text isn't in its file. A merge in the making is over then, and its files are pending.
 pub fn merge_step<D: Directory + Shelf>(
     core: &mut Core,
     device: &mut D,
@@ -198,7 +203,9 @@ pub fn merge_step<D: Directory + Shelf>(
     ensures left { IfErr result (λ e. (e ≡ Device) ⊎ (e ≡ Damaged)
         → (core.old.merging ≢ None) ⊎ (IsMergeDue policy core.old × (core.old.next_segment ≤ last_number))) }
     ensures damaged { IfErr result (λ e. e ≡ Damaged → HasRowsLeft core.old.merging) }
-    ensures device { IfErr result (λ e. e ≡ Device → HasRowsLeft core.old.merging ⊎ D.can_fail device.old) }
+    ensures lacking { IfErr result (λ e. e ≡ Damaged → LacksToCopy (D.bytes device.old) core.old.merging) }
+    ensures short { IfErr result (λ e. e ≡ Damaged → LacksInput (D.bytes device.old) core.old.merging) }
+    ensures device { IfErr result (λ e. e ≡ Device → D.can_fail device.old ⊎ LacksOwn (D.bytes device.old) core.old.merging) }
     ensures counted { IfErr result (λ e. e ≡ Device → CountsOne (D.fault_count device.old) (D.fault_count device.new)) }
     ensures memory { IfErr result (λ e. e ≡ Memory → D.fault_count device.new ≡ D.fault_count device.old) }
     ensures reach { IfErr result (λ e. e ≡ Memory → MayCopy (D.bytes device.old) core.old.merging) }

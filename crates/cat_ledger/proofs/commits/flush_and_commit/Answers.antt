@@ -8,9 +8,10 @@ use Rattle.cat_ledger_laws.proofs.shape.Committed.{commits_make}
 use Rattle.cat_ledger_laws.proofs.shape.Listed.{names_are_begun, no_source_begun}
 use Rattle.cat_ledger_laws.specs.shape.CommitLaws.{names_begun}
 use Rattle.cat_ledger.proofs.Histories.{commit_spares_others, newest_committed, next_committed}
+use Rattle.cat_ledger.proofs.Ordered.{committed_leaves, flushed_listed, ordered_behind, own_untouched}
 use Rattle.cat_ledger.proofs.Synced.{synced_stands}
 use Rattle.cat_ledger.specs.upkeep.Spared.{SparesCommits}
-use Rattle.cat_ledger.proofs.Refused.{goes_on, goes_on_behind}
+use Rattle.cat_ledger.proofs.Refused.{given_up_leaves, goes_on, goes_on_behind}
 use Rattle.cat_ledger.proofs.commits.flush_and_commit.Goals as goal
 
 pub returns-in-Ok-clause-ok : goal.returns-in-Ok-clause-ok
@@ -124,3 +125,32 @@ returns-in-Err-commit-clause-stays g c =
 
 pub returns-in-Err-commit-clause-memory : goal.returns-in-Err-commit-clause-memory
 returns-in-Err-commit-clause-memory g c = λ is. c.in-Err-commit.ensures.memory is ∙ c.in_default.ensures.quiet
+
+-- the flush touched no file of a commit, and the commit its own last
+pub returns-in-Err-clause-order : goal.returns-in-Err-clause-order
+returns-in-Err-clause-order g c =
+    own_untouched (g.D.Holder.bytes c.args.device.now) (g.D.Holder.bytes c.flush.new.device) (g.D.Holder.may_leave c.args.device.now)
+    (g.D.Holder.may_leave c.flush.new.device) c.args.core.now c.flush.new.core.leaves c.flush.ensures.own c.flush.ensures.commits
+
+pub returns-in-Err-commit-clause-order : goal.returns-in-Err-commit-clause-order
+returns-in-Err-commit-clause-order g c =
+    let bytes = g.D.Holder.bytes in
+    let left = g.D.Holder.may_leave in
+    ordered_behind (bytes c.args.device.now) (bytes c.flush.new.device) (bytes c.commit.new.device) (left c.args.device.now) (left c.flush.new.device)
+    (left c.commit.new.device) c.args.core.now c.flush.new.core c.commit.new.self c.flush.ensures.own c.flush.ensures.commits
+    (flushed_listed (bytes c.args.device.now) (bytes c.flush.new.device) c.args.core.now c.flush.new.core c.in_default.ensures.made)
+    c.in_default.ensures.generation
+    (given_up_leaves (names_begun c.flush.new.core) (bytes c.flush.new.device) (bytes c.commit.new.device) c.flush.new.core c.commit.new.self c.in-Err-commit.ensures.err)
+    c.commit.ensures.order
+
+pub returns-in-Ok-clause-order : goal.returns-in-Ok-clause-order
+returns-in-Ok-clause-order g c =
+    let bytes = g.D.Holder.bytes in
+    let left = g.D.Holder.may_leave in
+    ordered_behind (bytes c.args.device.now) (bytes c.flush.new.device) (bytes c.commit.new.device) (left c.args.device.now) (left c.flush.new.device)
+    (left c.commit.new.device) c.args.core.now c.flush.new.core c.commit.new.self c.flush.ensures.own c.flush.ensures.commits
+    (flushed_listed (bytes c.args.device.now) (bytes c.flush.new.device) c.args.core.now c.flush.new.core c.in_default.ensures.made)
+    c.in_default.ensures.generation (committed_leaves c.args.text.now c.flush.new.core c.commit.new.self c.in-Ok.ensures.ok.0) c.commit.ensures.order
+
+pub returns-in-Err-commit-clause-due : goal.returns-in-Err-commit-clause-due
+returns-in-Err-commit-clause-due g c = λ is. c.in_default.ensures.may

@@ -1,6 +1,7 @@
 use Rattle.cat_ledger.proofs.Made.{flush_begun, flush_made, left_begun}
 use Rattle.cat_ledger_state.specs.Cores.{flush_begins}
 use Rattle.cat_ledger.proofs.Histories.{flush_spares}
+use Rattle.cat_ledger.proofs.Ordered.{flushed_untold, given_up_untold}
 use Rattle.cat_ledger.proofs.Refused.{flushed_known, flushed_merging, given_up_merging}
 use Rattle.cat_ledger.proofs.room.flush.Goals as goal
 
@@ -32,3 +33,11 @@ returns-clause-merging g c =
 pub returns-clause-known : goal.returns-clause-known
 returns-clause-known g c =
     flushed_known (g.D.Holder.bytes c.args.device.now) (g.D.Holder.bytes c.flush.new.device) c.args.core.now c.flush.new.self c.in_default.ensures.ok
+
+pub returns-in-Err-clause-own : goal.returns-in-Err-clause-own
+returns-in-Err-clause-own g c =
+    given_up_untold (g.D.Holder.bytes c.args.device.now) (g.D.Holder.bytes c.flush.new.device) c.args.core.now c.flush.new.self c.in-Err.ensures.err
+
+pub returns-clause-own : goal.returns-clause-own
+returns-clause-own g c =
+    flushed_untold (g.D.Holder.bytes c.args.device.now) (g.D.Holder.bytes c.flush.new.device) c.args.core.now c.flush.new.self c.in_default.ensures.ok

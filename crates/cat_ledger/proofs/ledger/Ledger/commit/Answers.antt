@@ -1,14 +1,20 @@
-use Rattle.std.proofs.Common.{inl, inr}
+use Rattle.std.proofs.Common.{◌≡◌, ◌≤◌, Ok, arith, inl, inr}
+use Rattle.std.specs.Prelude.{◌⊎◌}
+use Rattle.cat_base.specs.declared.refusal.Refusal.TheVariants.{Device, Memory}
+use Rattle.cat_model.specs.Heard.{commit_text_of}
+use Rattle.cat_model.specs.Limits.{last_number}
+use Rattle.cat_ledger_state.specs.Cores.{MayNotFlush}
 use Rattle.cat_ledger.proofs.Lasting.{call_keeps, lets_left}
 use Rattle.cat_ledger.proofs.Made.{untouched}
-use Rattle.cat_ledger.proofs.Results.{on_ok, one_way}
+use Rattle.cat_ledger.proofs.Results.{if_err, on_ok, one_way}
+use Rattle.cat_ledger.proofs.Ordered.{nothing_ordered}
 use Rattle.cat_ledger.specs.Lasting.{IsLasting}
 use Rattle.cat_ledger_laws.specs.model.Replies.{IsLeft}
 use Rattle.cat_ledger_laws.specs.shape.Ties.{Makes}
 use Rattle.cat_ledger.proofs.Histories.{answered_goes, if_answered, nothing_goes, on_both, refused_or_other}
 use Rattle.cat_ledger.specs.Histories.{Event, Goes}
 use Rattle.cat_ledger_laws.specs.shape.Steps.{newest_generation}
-use Rattle.cat_ledger.proofs.Refused.{nothing_ends}
+use Rattle.cat_ledger.proofs.Refused.{no_want, nothing_ends}
 use Rattle.cat_ledger.proofs.ledger.Ledger.commit.Goals as goal
 
 pub returns-in-Err-clause-err : goal.returns-in-Err-clause-err
@@ -75,3 +81,24 @@ returns-then-next_generation-gt-LAST_NUMBER-clause-stays g c = nothing_ends c.ar
 
 pub returns-clause-stays : goal.returns-clause-stays
 returns-clause-stays g c = rw (← c.self.view_is) c.flush_and_commit.ensures.stays
+
+pub returns-in-Err-clause-order : goal.returns-in-Err-clause-order
+returns-in-Err-clause-order g c =
+    nothing_ordered (g.D.Holder.bytes c.args.self.now.device) (g.D.Holder.may_leave c.args.self.now.device) c.args.self.now.core
+
+pub returns-then-next_generation-gt-LAST_NUMBER-clause-order : goal.returns-then-next_generation-gt-LAST_NUMBER-clause-order
+returns-then-next_generation-gt-LAST_NUMBER-clause-order g c =
+    nothing_ordered (g.D.Holder.bytes c.args.self.now.device) (g.D.Holder.may_leave c.args.self.now.device) c.args.self.now.core
+
+pub returns-clause-order : goal.returns-clause-order
+returns-clause-order g c = rw (← c.self.view_is) c.flush_and_commit.ensures.order
+
+pub returns-in-Err-clause-due : goal.returns-in-Err-clause-due
+returns-in-Err-clause-due g c = λ is. absurd (no_want c.args.text.now c.in-Err.refusal c.in-Err.ensures.err is)
+
+pub returns-clause-due : goal.returns-clause-due
+returns-clause-due g c =
+    let s = c.self.inside.core in
+    rw (← c.self.view_is) (if_err (λ e. (e ≡ Memory) ⊎ (e ≡ Device) → MayNotFlush s → ⊥)
+    (λ e. (e ≡ Memory) ⊎ (e ≡ Device) → (commit_text_of c.args.text.now ≡ Ok c.args.text.now) × (s.next_generation ≤ last_number) × (MayNotFlush s → ⊥))
+    c.flush_and_commit.result (λ e may is. (c.in_default.ensures.ok, omega (arith, c.next_generation.ensures, c.if-next_generation-gt-LAST_NUMBER.false), may is)) c.flush_and_commit.ensures.due)

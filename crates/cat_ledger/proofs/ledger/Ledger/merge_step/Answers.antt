@@ -1,9 +1,16 @@
+use Rattle.std.proofs.Common.{◌≡◌, inl, inr}
+use Rattle.std.specs.Prelude.{◌⊎◌}
+use Rattle.cat_base.specs.declared.refusal.Refusal.TheVariants.{Damaged, Device}
 use Rattle.cat_model.specs.Run.{Chore}
 use Rattle.cat_ledger_laws.specs.model.Replies.{IsLeft, Maintains}
 use Rattle.cat_ledger_laws.specs.shape.Ties.{Makes}
 use Rattle.cat_ledger.specs.upkeep.News.{news_of}
 use Rattle.cat_ledger.proofs.Lasting.{call_keeps, lets_left, lets_maintain}
-use Rattle.cat_ledger.proofs.Results.{either_way}
+use Rattle.cat_ledger.proofs.Results.{either_way, if_err}
+use Rattle.cat_ledger.proofs.Synced.{own_stands}
+use Rattle.cat_ledger.proofs.Untold.{untold_input}
+use Rattle.cat_ledger.specs.Refusals.{HasUntoldInput}
+use Rattle.cat_ledger_state.specs.Cores.{LacksInput, LacksOwn}
 use Rattle.cat_ledger.specs.Lasting.{IsLasting}
 use Rattle.cat_ledger.proofs.Histories.{call_goes, or_gone}
 use Rattle.cat_ledger.specs.Histories.{Event, Goes}
@@ -44,3 +51,22 @@ returns-clause-history g c =
 
 pub returns-clause-segments : goal.returns-clause-segments
 returns-clause-segments g c = rw (← c.self.view_is) c.merge_step.ensures.segments
+
+-- the file that the merge copies to stands, so the directory can fail
+pub returns-clause-device : goal.returns-clause-device
+returns-clause-device g c =
+    let told = g.D.Holder.bytes c.self.inside.device in
+    rw (← c.self.view_is) (if_err (λ e. e ≡ Device → g.D.Holder.can_fail c.self.inside.device ⊎ LacksOwn told c.self.inside.core.merging)
+    (λ e. e ≡ Device → g.D.Holder.can_fail c.self.inside.device) c.merge_step.result
+    (λ e so is. elim (so is) [
+      | inl fails ↦ fails
+      | inr gone ↦ absurd (own_stands told c.self.inside.core c.self.invariant.carried gone)
+    ]) c.merge_step.ensures.device)
+
+-- the files with sources are whole where they are told, so one isn't
+pub returns-clause-untold : goal.returns-clause-untold
+returns-clause-untold g c =
+    let told = g.D.Holder.bytes c.self.inside.device in
+    let merging = c.self.inside.core.merging in
+    rw (← c.self.view_is) (if_err (λ e. e ≡ Damaged → LacksInput told merging) (λ e. e ≡ Damaged → HasUntoldInput told merging) c.merge_step.result
+    (λ e lacks is. untold_input told c.self.inside.core c.self.invariant.carried (lacks is)) c.merge_step.ensures.short)

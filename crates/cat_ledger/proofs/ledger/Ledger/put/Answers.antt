@@ -104,3 +104,9 @@ pub returns-in-Err-put-clause-stays : goal.returns-in-Err-put-clause-stays
 returns-in-Err-put-clause-stays g c =
     rw (← c.self.view_is) (goes_on c.self.inside.core c.make_room.new.core c.put.new.self c.make_room.ensures.merging c.make_room.ensures.known
     c.in-Err-put.ensures.err)
+
+pub returns-in-Err-clause-room : goal.returns-in-Err-clause-room
+returns-in-Err-clause-room g c = λ is full. rw (← c.self.view_is) (c.in-Err.ensures.due is)
+
+pub returns-in-Err-put-clause-room : goal.returns-in-Err-put-clause-room
+returns-in-Err-put-clause-room g c = λ is. rw (← c.self.view_is) c.in_default.ensures.may
