@@ -1,4 +1,5 @@
 pub mod Answered
 pub mod Kept
 pub mod ItemFaults
+pub mod Swept
 pub mod Warmed

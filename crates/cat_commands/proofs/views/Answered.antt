@@ -96,6 +96,10 @@ reading_refusal old new Device counted = inr (inl refl)
 reading_refusal old new Damaged counted = inr (inr refl)
 reading_refusal old new _ counted = absurd counted
 
+-- and where it is for memory, it counts nothing
+pub reading_is_quiet : (old new : ℕ) (e : Refusal) → ReadingCount old new e → e ≡ Memory → new ≡ old
+reading_is_quiet old new e counted memory = subst (λ x. ReadingCount old new x) memory counted
+
 -- ---- the text of an item
 
 pub option_map_twice : {X Y Z : Type 0} (f : X → Y) (g : Y → Z) (o : Option X) → option_map g (option_map f o) ≡ option_map (λ x. g (f x)) o

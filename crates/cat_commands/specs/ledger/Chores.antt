@@ -1,12 +1,13 @@
 -- What maintenance tells of a ledger, when it is refused, and which files it spares.
-use Rattle.std.specs.Prelude.{ℕ, ◌≡◌, ◌≢◌, ◌⊎◌, ◌<◌, ◌≤◌, ◌==◌, Bool, not, None, Option, length, map, count_by}
+use Rattle.std.specs.Prelude.{ℕ, ◌≡◌, ◌≢◌, ◌⊎◌, ◌<◌, ◌≤◌, ◌==◌, Bool, false, not, None, Option, length, map, count_by}
 use Rattle.std.specs.List.{list_any}
 use Rattle.cat_base.specs.declared.refusal.Refusal.{Refusal}
 use Rattle.cat_base.specs.declared.refusal.Refusal.TheVariants.{Damaged, Device, Memory, Spent}
+use Rattle.cat_model.specs.Files.{Name}
 use Rattle.cat_model.specs.Limits.{last_number}
 use Rattle.cat_model.specs.Run as run
 use Rattle.cat_model.specs.View.{Leaf, segments_of}
-use Rattle.cat_directory.specs.Devices.{FileContent, NoMore}
+use Rattle.cat_directory.specs.Devices.{FileContent, NoMore, removed, told_after}
 use Rattle.cat_directory.specs.Names.{name_of}
 use Rattle.cat_directory.specs.declared.name.FileName.{FileName}
 use Rattle.cat_cached_sets.specs.filters.Filters.{Filters, filters_without}
@@ -19,6 +20,8 @@ use Rattle.cat_ledger_laws.specs.shape.Shapes.{MergingShape, Shape}
 use Rattle.cat_ledger_laws.specs.shape.Ties.{ToldFiles}
 use Rattle.cat_ledger.specs.cat_ledger_state.Cores.{HasRowsLeft, MayCopy}
 use Rattle.cat_ledger.specs.cat_ledger_state.Installs.{IsOfMerge}
+use Rattle.cat_ledger.specs.cat_lifetimes.refs.Counts.{IsPending, is_pending}
+use Rattle.cat_ledger.specs.cat_lifetimes.refs.Swept.{Swept}
 use Rattle.cat_ledger.specs.upkeep.Due.{IsForceDue, IsMergeDue}
 use Rattle.cat_ledger.specs.Refusals.{KeepsMerge, KeepsSegments}
 use Rattle.cat_ledger.specs.Ledgers.{LedgerOnDevice, device_in, shape_in}
@@ -106,12 +109,6 @@ pub record MayRefuseForce (s : Shape) (e : Refusal) : Type 0 where
   pub spent : e ≡ Spent → last_number < s.next_segment
   pub left : (e ≡ Memory) ⊎ (e ≡ Device) → s.next_segment ≤ last_number
 
--- The device can fail; or a MERGE is to copy rows, and the file that it copies to or from may be gone. Where the device can't fail, no other
--- maintenance is told that it did.
-abbrev pub FailsFor : Chore → Option MergingShape → Type 0 → Type 0
-FailsFor Merge merging fails = HasRowsLeft merging ⊎ fails
-FailsFor chore merging fails = fails
-
 -- Where a MERGE is told that memory was wanting, no source that it is to copy is told to be outside the file of its segment.
 abbrev pub ReachesFor : Chore → ToldFiles → Option MergingShape → Type 0
 ReachesFor Merge told merging = MayCopy told merging
@@ -129,6 +126,22 @@ abbrev pub KeepsBehind : Chore → Shape → Shape → Type 0
 KeepsBehind Merge s new = KeepsSegments s new
 KeepsBehind Force s new = KeepsMerge s new × KeepsSegments s new
 KeepsBehind chore s new = Unit {0}
+
+-- ---- what is swept
+
+-- What a SWEEP does to files, whether it is refused or not. The first two arguments say what a device tells of its files, and what a crash
+-- may leave of them.
+abbrev pub SweepsFiles : {D : Type 0} → (D → ToldFiles) → (D → FileName → FileContent → Type 0) → LedgerOnDevice D → LedgerOnDevice D → Type 0
+SweepsFiles bytes left old new =
+    Swept (shape_in old).users (shape_in new).users (bytes (device_in old)) (bytes (device_in new)) (left (device_in old)) (left (device_in new))
+
+-- Behind a SWEEP with an OK nothing waits to be deleted: each file that nobody needed is gone, where the device tells of it, and no other
+-- is touched. None is counted as pending any more.
+pub record IsSwept {D : Type 0} (bytes : D → ToldFiles) (old new : LedgerOnDevice D) : Type 0 where
+  pub none : (q : Name) → is_pending (shape_in new).users q ≡ false
+  pub done : pending_in (shape_in new) ≡ 0
+  pub gone : (q : FileName) → IsPending (shape_in old).users q → bytes (device_in new) q ≡ told_after removed (bytes (device_in old) q)
+  pub others : (q : FileName) → is_pending (shape_in old).users (name_of q) ≡ false → bytes (device_in new) q ≡ bytes (device_in old) q
 
 -- ---- what a crash may leave
 

@@ -3,17 +3,19 @@
 //! Lucene's `IndexWriter.maybeMerge`, `forceMerge(1)` and `deleteUnusedFiles`, and what `getDocStats` tells.
 ghost use Rattle.cat_directory.specs.Devices.{CountsOne};
 ghost use Rattle.std.specs.Prelude.{◌≡◌, ◌≢◌, ◌⊎◌, IfOk, IfErr, OnErr, Err, length, ◌≤◌};
-ghost use Rattle.cat_base.specs.declared.refusal.Refusal.TheVariants.{Device, Line as NoForm, Memory};
+ghost use Rattle.cat_base.specs.declared.refusal.Refusal.TheVariants.{Damaged, Device, Line as NoForm, Memory};
 ghost use Rattle.cat_model.specs.Lines.{Said};
 ghost use Rattle.cat_model.specs.Run as run;
 ghost use Rattle.cat_cached_sets.specs.filters.Known.{Remembers, RemembersBelow};
-ghost use Rattle.cat_ledger.specs.cat_ledger_state.Cores.{HasRowsLeft, MayCopy};
+ghost use Rattle.cat_ledger.specs.cat_ledger_state.Cores.{LacksInput, LacksToCopy, MayCopy};
 ghost use Rattle.cat_ledger.specs.Answering.{AnswersCommand, AnswersSaid};
 ghost use Rattle.cat_ledger.specs.Histories.{Event, Goes};
+ghost use Rattle.cat_ledger.specs.Lasting.{IsCarried};
 ghost use Rattle.cat_ledger.specs.Ledgers.{Spares, device_in, policy_in, shape_in};
 ghost use Rattle.cat_ledger.specs.Refusals.{KeepsSegments};
 ghost use Rattle.cat_protocol.specs.replies.Reply.{answer_of, reply_of};
-ghost use Rattle.cat_commands.specs.ledger.Chores.{FailsFor, KeepsBehind, MayRefuse, MayRefuseMerge, ReachesFor, SparesUsed, TellsChore, chore_of, pending_in, sets_left};
+ghost use Rattle.cat_commands.specs.declared.ledger.chores.Chore.TheVariants.{Merge, Sweep};
+ghost use Rattle.cat_commands.specs.ledger.Chores.{IsSwept, KeepsBehind, MayRefuse, MayRefuseMerge, ReachesFor, SparesUsed, SweepsFiles, TellsChore, chore_of, pending_in, sets_left};
 
 use crate::ledger::merging::{force, merge_step};
 use crate::ledger::stats::tell_stat;
@@ -45,8 +47,11 @@ fn merge<D: Directory + Shelf>(
     ensures answers { AnswersCommand D.bytes 0 (run.Command.chore run.Chore.merge) ledger.old (reply_of result) ledger.new }
     ensures refusal { IfErr result (MayRefuseMerge (policy_in ledger.old) (shape_in ledger.old)) }
     ensures reach { IfErr result (λ e. e ≡ Memory → MayCopy (D.bytes (device_in ledger.old)) (shape_in ledger.old).merging) }
-    ensures device { IfErr result (λ e. e ≡ Device → HasRowsLeft (shape_in ledger.old).merging ⊎ D.can_fail (device_in ledger.old)) }
+    ensures lacks { IfErr result (λ e. e ≡ Damaged → LacksToCopy (D.bytes (device_in ledger.old)) (shape_in ledger.old).merging
+        × LacksInput (D.bytes (device_in ledger.old)) (shape_in ledger.old).merging) }
+    ensures device { IfErr result (λ e. e ≡ Device → D.can_fail (device_in ledger.old)) }
     ensures counted { IfErr result (λ e. e ≡ Device → CountsOne (D.fault_count (device_in ledger.old)) (D.fault_count (device_in ledger.new))) }
+    ensures quiet { IfErr result (λ e. e ≡ Memory → D.fault_count (device_in ledger.new) ≡ D.fault_count (device_in ledger.old)) }
     ensures crash { Spares D.may_leave ledger.old ledger.new }
     ensures can { D.can_fail (device_in ledger.new) → D.can_fail (device_in ledger.old) }
     ensures rises { D.fault_count (device_in ledger.old) ≤ D.fault_count (device_in ledger.new) }
@@ -67,9 +72,12 @@ fn merge<D: Directory + Shelf>(
 fn sweep<D: Directory + Shelf>(ledger: &mut Ledger<D>) -> Result<Answer, Refusal>
     ensures answers { AnswersCommand D.bytes 0 (run.Command.chore run.Chore.sweep) ledger.old (reply_of result) ledger.new }
     ensures told { IfOk result (λ a. answer_of a ≡ run.Answer.news (run.News.swept (pending_in (shape_in ledger.old)))) }
+    ensures files { SweepsFiles D.bytes D.may_leave ledger.old ledger.new }
+    ensures swept { IsCarried (D.bytes (device_in ledger.old)) (shape_in ledger.old) → IfOk result (λ a. IsSwept D.bytes ledger.old ledger.new) }
     ensures refusal { IfErr result (λ e. (e ≡ Memory) ⊎ (e ≡ Device)) }
     ensures device { IfErr result (λ e. e ≡ Device → D.can_fail (device_in ledger.old)) }
     ensures counted { IfErr result (λ e. e ≡ Device → CountsOne (D.fault_count (device_in ledger.old)) (D.fault_count (device_in ledger.new))) }
+    ensures quiet { IfErr result (λ e. e ≡ Memory → D.fault_count (device_in ledger.new) ≡ D.fault_count (device_in ledger.old)) }
     ensures crash { SparesUsed D.may_leave ledger.old ledger.new }
     ensures can { D.can_fail (device_in ledger.new) → D.can_fail (device_in ledger.old) }
     ensures rises { D.fault_count (device_in ledger.old) ≤ D.fault_count (device_in ledger.new) }
@@ -90,7 +98,8 @@ fn sweep<D: Directory + Shelf>(ledger: &mut Ledger<D>) -> Result<Answer, Refusal
 ///   the making over a segment that it took is given up: its segment is in the list no more. Nothing else changes these sets.
 ///   Behind a refusal of either the same segments stand, and what waited still waits; behind one of FORCE a merge in the
 ///   making goes on.
-/// - A SWEEP is refused with [`Refusal::Device`] where the directory fails: the file that it failed at and those behind it
+/// - Behind a SWEEP with an OK no file waits to be deleted: each that did is gone, where the directory tells of it, and no other
+///   is touched. It is refused with [`Refusal::Device`] where the directory fails: the file that it failed at and those behind it
 ///   still wait; or with [`Refusal::Memory`], with nothing done.
 /// - A STAT, which tells of these cached sets, is refused with [`Refusal::Memory`] alone.
 pub fn maintain<D: Directory + Shelf>(
@@ -103,10 +112,16 @@ pub fn maintain<D: Directory + Shelf>(
     ensures answers { AnswersSaid D.bytes session (Said.chore (chore_of chore)) ledger.old (reply_of result) ledger.new }
     ensures foreign { session ≢ 0 → (result ≡ Err NoForm) × (ledger.new ≡ ledger.old) × (filters.new ≡ filters.old) }
     ensures told { IfOk result (λ a. TellsChore (length filters.old.cached) (shape_in ledger.old) chore (answer_of a)) }
+    ensures files { session ≡ 0 → chore ≡ Sweep → SweepsFiles D.bytes D.may_leave ledger.old ledger.new }
+    ensures swept { chore ≡ Sweep → IsCarried (D.bytes (device_in ledger.old)) (shape_in ledger.old)
+        → IfOk result (λ a. IsSwept D.bytes ledger.old ledger.new) }
     ensures refusal { session ≡ 0 → IfErr result (MayRefuse (policy_in ledger.old) (shape_in ledger.old) chore) }
     ensures reach { IfErr result (λ e. e ≡ Memory → ReachesFor chore (D.bytes (device_in ledger.old)) (shape_in ledger.old).merging) }
-    ensures device { IfErr result (λ e. e ≡ Device → FailsFor chore (shape_in ledger.old).merging (D.can_fail (device_in ledger.old))) }
+    ensures lacks { chore ≡ Merge → IfErr result (λ e. e ≡ Damaged → LacksToCopy (D.bytes (device_in ledger.old)) (shape_in ledger.old).merging
+        × LacksInput (D.bytes (device_in ledger.old)) (shape_in ledger.old).merging) }
+    ensures device { IfErr result (λ e. e ≡ Device → D.can_fail (device_in ledger.old)) }
     ensures counted { IfErr result (λ e. e ≡ Device → CountsOne (D.fault_count (device_in ledger.old)) (D.fault_count (device_in ledger.new))) }
+    ensures quiet { IfErr result (λ e. e ≡ Memory → D.fault_count (device_in ledger.new) ≡ D.fault_count (device_in ledger.old)) }
     ensures crash { SparesUsed D.may_leave ledger.old ledger.new }
     ensures can { D.can_fail (device_in ledger.new) → D.can_fail (device_in ledger.old) }
     ensures rises { D.fault_count (device_in ledger.old) ≤ D.fault_count (device_in ledger.new) }

@@ -35,9 +35,11 @@ pub fn commit<D: Directory + Shelf>(ledger: &mut Ledger<D>, text: &str) -> Resul
         → (result ≡ Err Spent) × (ledger.new ≡ ledger.old) }
     ensures spent { commit_text_of text.now ≡ Ok text.now → IfErr result (λ e. e ≡ Spent
         → (last_number < (shape_in ledger.old).next_generation) ⊎ MayNotFlush (shape_in ledger.old)) }
+    ensures due { IfErr result (λ e. (e ≡ Memory) ⊎ (e ≡ Device) → MayNotFlush (shape_in ledger.old) → ⊥) }
     ensures device { commit_text_of text.now ≡ Ok text.now → IfErr result (λ e. e ≡ Device → D.can_fail (device_in ledger.old)) }
     ensures crash { Spares D.may_leave ledger.old ledger.new }
     ensures counted { commit_text_of text.now ≡ Ok text.now → IfErr result (λ e. e ≡ Device → CountsOne (D.fault_count (device_in ledger.old)) (D.fault_count (device_in ledger.new))) }
+    ensures quiet { IfErr result (λ e. e ≡ Memory → D.fault_count (device_in ledger.new) ≡ D.fault_count (device_in ledger.old)) }
     ensures can { D.can_fail (device_in ledger.new) → D.can_fail (device_in ledger.old) }
     ensures rises { D.fault_count (device_in ledger.old) ≤ D.fault_count (device_in ledger.new) }
     ensures history { GoesBy D.may_leave (Some (Said.commit text.now)) (reply_of result) ledger.old ledger.new }

@@ -61,8 +61,8 @@ fn read_query<D: Directory + Shelf>(
 ///
 /// A fault of the text comes first, as [`Schema::item`](cat_items::Schema::item) tells it; then [`Refusal::Spent`] where no
 /// number is left for the write, or none for the segment that a flush makes; else [`Refusal::Device`] where the flush fails.
-/// [`Refusal::Memory`] may come once it is known that the text has 1 to 8,192 bytes, and that they are UTF-8. A merge in the
-/// making goes on, also behind a refusal.
+/// [`Refusal::Memory`] may come once it is known that the text has 1 to 8,192 bytes, and that they are UTF-8; no failure is
+/// counted then. A merge in the making goes on, also behind a refusal.
 pub fn put<D: Directory + Shelf>(
     alloc: Global,
     ledger: &mut Ledger<D>,
@@ -75,6 +75,7 @@ pub fn put<D: Directory + Shelf>(
     ensures device { IfErr result (λ e. e ≡ Device → D.can_fail (device_in ledger.old)) }
     ensures crash { Spares D.may_leave ledger.old ledger.new }
     ensures counted { IfErr result (λ e. e ≡ Device → CountsOne (D.fault_count (device_in ledger.old)) (D.fault_count (device_in ledger.new))) }
+    ensures quiet { IfErr result (λ e. e ≡ Memory → D.fault_count (device_in ledger.new) ≡ D.fault_count (device_in ledger.old)) }
     ensures can { D.can_fail (device_in ledger.new) → D.can_fail (device_in ledger.old) }
     ensures rises { D.fault_count (device_in ledger.old) ≤ D.fault_count (device_in ledger.new) }
     ensures history { Goes D.may_leave Event.Other ledger.old ledger.new }

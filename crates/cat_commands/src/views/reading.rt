@@ -49,6 +49,7 @@ pub fn get<D: Directory + Shelf>(
         → IfErr result (λ e. (e ≡ Memory) ⊎ (e ≡ Device) ⊎ (e ≡ Damaged)) }
     ensures one_line { IfOk result (λ a. (source : Option Text) × (answer_of a ≡ run.Answer.found (Found.source source)) × HasNoLineFeed source) }
     ensures counted { IfErr result (λ e. e ≡ Device → CountsOne (D.fault_count (device_in ledger.old)) (D.fault_count (device_in ledger.new))) }
+    ensures quiet { IfErr result (λ e. e ≡ Memory → D.fault_count (device_in ledger.new) ≡ D.fault_count (device_in ledger.old)) }
     ensures damaged { IfErr result (λ e. e ≡ Damaged → (view : View) → IsRecordedAs (shape_in ledger.old).views token view
         → (files : ℕ → List ℕ) → TellsSource (D.bytes (device_in ledger.old)) files view id.now → HoldsSource files view id.now → ⊥) }
     ensures reach { IfErr result (λ e. e ≡ Memory → (view : View) → IsRecordedAs (shape_in ledger.old).views token view

@@ -1,4 +1,6 @@
-use Rattle.std.proofs.Common.{ap, refl, sym}
+use Rattle.std.proofs.Common.{ap, refl, sym, ◌∙◌}
+use Rattle.std.specs.Prelude.{◌≢◌}
+use Rattle.cat_base.specs.declared.refusal.Refusal.TheVariants.{Damaged, Line as NoForm}
 use Rattle.cat_model.specs.Run.{Chore, Command}
 use Rattle.cat_ledger.specs.Ledgers.{device_in, policy_in, shape_in}
 use Rattle.cat_ledger_laws.proofs.lines.RefusalAnswers.{foreign_chores_answer}
@@ -7,7 +9,26 @@ use Rattle.cat_commands.specs.declared.ledger.chores.Chore.TheVariants.{Force, M
 use Rattle.cat_commands.specs.ledger.Chores.{chore_of}
 use Rattle.cat_commands.proofs.ledger.Answered.{at_zero}
 use Rattle.cat_commands.proofs.ledger.Kept.{behind_force, behind_none, behind_same, behind_so, goes_same, reach_any, reach_so}
+use Rattle.cat_commands.proofs.ledger.Swept.{quiet_same}
 use Rattle.cat_commands.proofs.ledger.chores.maintain.Goals as goal
+
+formless_differs : NoForm ≢ Damaged
+formless_differs = λ h. cc h
+
+force_is_none : Force ≢ Merge
+force_is_none = λ h. cc h
+
+stat_is_none : Stat ≢ Merge
+stat_is_none = λ h. cc h
+
+merge_differs : Merge ≢ Sweep
+merge_differs = λ h. cc h
+
+force_differs : Force ≢ Sweep
+force_differs = λ h. cc h
+
+stat_differs : Stat ≢ Sweep
+stat_differs = λ h. cc h
 
 pub returns-then-session-ne0-clause-answers : goal.returns-then-session-ne0-clause-answers
 returns-then-session-ne0-clause-answers g c =
@@ -113,3 +134,57 @@ returns-in-Stat-clause-reach g c =
     let told = g.D.Holder.bytes (device_in c.args.ledger.now) in
     let merging = (shape_in c.args.ledger.now).merging in
     reach_so c.args.chore Stat told merging c.tell_stat.result c.in-Stat.is (reach_any Stat told merging c.tell_stat.result tt)
+
+pub returns-then-session-ne0-clause-files : goal.returns-then-session-ne0-clause-files
+returns-then-session-ne0-clause-files g c = λ zero sweeps. absurd (c.if-session-ne0.true zero)
+
+pub returns-in-Sweep-clause-files : goal.returns-in-Sweep-clause-files
+returns-in-Sweep-clause-files g c = λ zero sweeps. c.sweep.ensures.files
+
+pub returns-in-Sweep-clause-swept : goal.returns-in-Sweep-clause-swept
+returns-in-Sweep-clause-swept g c = λ sweeps. c.sweep.ensures.swept
+
+pub returns-in-Sweep-clause-quiet : goal.returns-in-Sweep-clause-quiet
+returns-in-Sweep-clause-quiet g c = c.sweep.ensures.quiet
+
+pub returns-in-Merge-clause-quiet : goal.returns-in-Merge-clause-quiet
+returns-in-Merge-clause-quiet g c = c.merge.ensures.quiet
+
+pub returns-in-Force-clause-quiet : goal.returns-in-Force-clause-quiet
+returns-in-Force-clause-quiet g c = c.force.ensures.quiet
+
+pub returns-in-Stat-clause-quiet : goal.returns-in-Stat-clause-quiet
+returns-in-Stat-clause-quiet g c = quiet_same (g.D.Holder.fault_count (device_in c.args.ledger.now)) c.tell_stat.result
+
+pub returns-in-Merge-clause-files : goal.returns-in-Merge-clause-files
+returns-in-Merge-clause-files g c = λ zero sweeps. absurd (merge_differs (sym c.in-Merge.is ∙ sweeps))
+
+pub returns-in-Merge-clause-swept : goal.returns-in-Merge-clause-swept
+returns-in-Merge-clause-swept g c = λ sweeps. absurd (merge_differs (sym c.in-Merge.is ∙ sweeps))
+
+pub returns-in-Force-clause-files : goal.returns-in-Force-clause-files
+returns-in-Force-clause-files g c = λ zero sweeps. absurd (force_differs (sym c.in-Force.is ∙ sweeps))
+
+pub returns-in-Force-clause-swept : goal.returns-in-Force-clause-swept
+returns-in-Force-clause-swept g c = λ sweeps. absurd (force_differs (sym c.in-Force.is ∙ sweeps))
+
+pub returns-in-Stat-clause-files : goal.returns-in-Stat-clause-files
+returns-in-Stat-clause-files g c = λ zero sweeps. absurd (stat_differs (sym c.in-Stat.is ∙ sweeps))
+
+pub returns-in-Stat-clause-swept : goal.returns-in-Stat-clause-swept
+returns-in-Stat-clause-swept g c = λ sweeps. absurd (stat_differs (sym c.in-Stat.is ∙ sweeps))
+
+pub returns-then-session-ne0-clause-lacks : goal.returns-then-session-ne0-clause-lacks
+returns-then-session-ne0-clause-lacks g c = λ merges is. absurd (formless_differs is)
+
+pub returns-in-Merge-clause-lacks : goal.returns-in-Merge-clause-lacks
+returns-in-Merge-clause-lacks g c = λ merges. c.merge.ensures.lacks
+
+pub returns-in-Force-clause-lacks : goal.returns-in-Force-clause-lacks
+returns-in-Force-clause-lacks g c = λ merges. absurd (force_is_none (sym c.in-Force.is ∙ merges))
+
+pub returns-in-Sweep-clause-lacks : goal.returns-in-Sweep-clause-lacks
+returns-in-Sweep-clause-lacks g c = λ merges. absurd (merge_differs (sym merges ∙ c.in-Sweep.is))
+
+pub returns-in-Stat-clause-lacks : goal.returns-in-Stat-clause-lacks
+returns-in-Stat-clause-lacks g c = λ merges. absurd (stat_is_none (sym c.in-Stat.is ∙ merges))

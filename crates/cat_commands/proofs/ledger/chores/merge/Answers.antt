@@ -9,3 +9,9 @@ pub returns-clause-sets : goal.returns-clause-sets
 returns-clause-sets g c =
     c.keep_among.ensures.value
     ∙ ap (λ (ls : List Leaf). filters_without (λ n. not (list_any (λ l. l.segment.number == n) ls)) c.args.filters.now) c.leaves.ensures
+
+pub returns-clause-quiet : goal.returns-clause-quiet
+returns-clause-quiet g c = c.merge_step-answer.ensures.quiet
+
+pub returns-clause-lacks : goal.returns-clause-lacks
+returns-clause-lacks g c = c.merge_step-answer.ensures.lacks

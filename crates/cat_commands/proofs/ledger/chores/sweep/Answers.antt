@@ -2,6 +2,7 @@ use Rattle.cat_model.specs.Run.{Chore, News}
 use Rattle.cat_ledger.specs.Ledgers.{device_in, policy_in, shape_in}
 use Rattle.cat_ledger_laws.proofs.lines.StopAnswers.{chores_answer, sweeps_tell}
 use Rattle.cat_commands.proofs.ledger.Answered.{sweep_refused}
+use Rattle.cat_commands.proofs.ledger.Swept.{swept_so}
 use Rattle.cat_commands.proofs.ledger.chores.sweep.Goals as goal
 
 pub returns-in-Err-clause-answers : goal.returns-in-Err-clause-answers
@@ -19,3 +20,16 @@ returns-in-Ok-clause-answers g c =
     let told' = g.D.Holder.bytes (device_in new) in
     chores_answer (policy_in old) told told' (shape_in old) (shape_in new) Chore.sweep (News.swept c.in-Ok.files)
     (sweeps_tell (policy_in old) told told' (shape_in old) (shape_in new) c.in-Ok.files c.in-Ok.ensures.ok)
+
+pub returns-in-Ok-clause-files : goal.returns-in-Ok-clause-files
+returns-in-Ok-clause-files g c = c.in-Ok.ensures.files
+
+pub returns-in-Err-clause-files : goal.returns-in-Err-clause-files
+returns-in-Err-clause-files g c = c.in-Err.ensures.files
+
+pub returns-in-Ok-clause-swept : goal.returns-in-Ok-clause-swept
+returns-in-Ok-clause-swept g c = λ carried.
+    swept_so g.D.Holder.bytes g.D.Holder.may_leave c.args.ledger.now c.sweep.new.self c.in-Ok.ensures.ok c.in-Ok.ensures.files c.in-Ok.ensures.none c.in-Ok.ensures.done carried
+
+pub returns-in-Err-clause-quiet : goal.returns-in-Err-clause-quiet
+returns-in-Err-clause-quiet g c = c.in-Err.ensures.quiet

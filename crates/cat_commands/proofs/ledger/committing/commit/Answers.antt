@@ -36,3 +36,9 @@ returns-in-Err-clause-answers g c = λ session.
           (λ form spent. let at = c.in-Err.ensures.none form spent in (err_is at.0, unchanged g.D.Holder.bytes old new at.1))
           c.in-Err.ensures.refusal c.in-Err.ensures.err,
     )
+
+pub returns-in-Err-clause-quiet : goal.returns-in-Err-clause-quiet
+returns-in-Err-clause-quiet g c = c.in-Err.ensures.memory
+
+pub returns-in-Err-clause-due : goal.returns-in-Err-clause-due
+returns-in-Err-clause-due g c = λ is. (c.in-Err.ensures.due is).2

@@ -25,3 +25,6 @@ returns-in-Err-clause-answers g c =
     let new = c.force.new.self in
     force_refused (policy_in old) (g.D.Holder.bytes (device_in old)) (g.D.Holder.bytes (device_in new)) (shape_in old) (shape_in new)
     c.in-Err.refusal c.in-Err.ensures.err c.in-Err.ensures.refusal
+
+pub returns-in-Err-clause-quiet : goal.returns-in-Err-clause-quiet
+returns-in-Err-clause-quiet g c = c.in-Err.ensures.memory

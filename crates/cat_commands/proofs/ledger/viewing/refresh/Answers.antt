@@ -36,3 +36,6 @@ returns-in-Err-clause-answers g c = λ session.
 pub returns-in-Err-clause-full : goal.returns-in-Err-clause-full
 returns-in-Err-clause-full g c = λ full.
     let at = c.in-Err.ensures.full full in (ap Err (err_is at.0), at.1)
+
+pub returns-in-Err-clause-quiet : goal.returns-in-Err-clause-quiet
+returns-in-Err-clause-quiet g c = c.in-Err.ensures.memory

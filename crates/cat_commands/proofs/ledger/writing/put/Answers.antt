@@ -63,3 +63,9 @@ returns-in-Err-clause-counted g c = λ is.
 
 pub returns-in-Err-clause-stays : goal.returns-in-Err-clause-stays
 returns-in-Err-clause-stays g c = merge_same (shape_in c.args.ledger.now)
+
+pub returns-in-Err-clause-quiet : goal.returns-in-Err-clause-quiet
+returns-in-Err-clause-quiet g c = λ memory. refl
+
+pub returns-in-Err-put-clause-quiet : goal.returns-in-Err-put-clause-quiet
+returns-in-Err-put-clause-quiet g c = c.in-Err-put.ensures.memory

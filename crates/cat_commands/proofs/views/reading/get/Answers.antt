@@ -8,7 +8,7 @@ use Rattle.cat_model.specs.Text.{Text}
 use Rattle.cat_ledger.specs.cat_lifetimes.rights.Rights.{right_of}
 use Rattle.cat_ledger.specs.Ledgers.{device_in, policy_in, shape_in}
 use Rattle.cat_ledger_laws.proofs.lines.ReadAnswers.{gets_answer}
-use Rattle.cat_commands.proofs.views.Answered.{get_refused, option_map_twice, reading_refusal, sources_told}
+use Rattle.cat_commands.proofs.views.Answered.{get_refused, option_map_twice, reading_is_quiet, reading_refusal, sources_told}
 use Rattle.cat_commands.proofs.views.Counted.{right_held}
 use Rattle.cat_commands.proofs.views.Stays.{nothing}
 use Rattle.cat_commands.proofs.views.reading.get.Goals as goal
@@ -59,3 +59,8 @@ returns-then-not-id_ok-clause-history g c = nothing g.D.Holder.may_leave c.args.
 
 pub returns-in_default-clause-history : goal.returns-in_default-clause-history
 returns-in_default-clause-history g c = nothing g.D.Holder.may_leave c.args.ledger.now
+
+pub returns-in-Err-clause-quiet : goal.returns-in-Err-clause-quiet
+returns-in-Err-clause-quiet g c =
+    reading_is_quiet (g.D.Holder.fault_count (device_in c.args.ledger.now)) (g.D.Holder.fault_count (device_in c.source.new.self)) c.in-Err.refusal
+    c.in-Err.ensures.counted
