@@ -1,18 +1,19 @@
 -- What an opened world begins with.
 use Rattle.std.proofs.Common.{◌≡◌, ℕ, List, [], ◌∷◌, ap, ap₂, append-nil, map, refl, sym, ◌∙◌, subst, inl, inr}
 use Rattle.std.specs.List.{AllByRecursion}
-use Rattle.std.specs.Prelude.{◌≢◌, ◌⊎◌, Some, None, Result, Ok, Err, ◌++◌}
+use Rattle.std.specs.Prelude.{◌≢◌, ◌⊎◌, Option, Some, None, Result, Ok, Err, ok_or, ◌++◌}
+use Rattle.std.specs.Option.{option_map_or}
 use Rattle.cat_base.specs.declared.refusal.Refusal.{Refusal}
-use Rattle.cat_base.specs.declared.refusal.Refusal.TheVariants.{Damaged, Device, Kind, Memory}
+use Rattle.cat_base.specs.declared.refusal.Refusal.TheVariants.{Damaged, Device, Json as NoJson, Kind, Line as NoForm, Memory}
 use Rattle.cat_model.specs.CommitFile.{CommitFile}
 use Rattle.cat_model.specs.Item.{Record, Schema}
 use Rattle.cat_model.specs.Lines.{IsReadable}
-use Rattle.cat_model.specs.Served.{Begins, SpellsSchema}
+use Rattle.cat_model.specs.Served.{Begins, HasSchemaText, SpellsSchema}
 use Rattle.cat_model.specs.State.{IsFresh, StandsFor, has_hold, newest_told, opened_as}
 use Rattle.cat_model.specs.Table.{Opened}
 use Rattle.cat_model.specs.Text.{Text}
 use Rattle.cat_model.proofs.Opening.{fresh_begins}
-use Rattle.cat_items.specs.Reading.{schema_of}
+use Rattle.cat_items.specs.Reading.{json_of, schema_of}
 use Rattle.cat_ledger_laws.specs.model.Ledger.{Ledger, IsWholeCommit, commit_shown, portions_in, state_of, table_of}
 use Rattle.cat_ledger_laws.specs.model.Portions.{Portion, leaf_of, records_of}
 use Rattle.cat_ledger_laws.specs.model.Stored.{FileBytes, IsCommitStored}
@@ -21,12 +22,14 @@ use Rattle.cat_ledger_laws.specs.shape.Steps.{Leaves}
 use Rattle.cat_ledger_laws.specs.shape.Ties.{Carries, ToldFiles}
 use Rattle.cat_ledger_laws.proofs.shape.Writes.{sweeps_make}
 use Rattle.cat_ledger_laws.specs.lines.RunLaws.{Stands}
+use Rattle.cat_commands.specs.cat_ledger_state.cat_commits.reading.Refused.{OpeningCount}
 use Rattle.cat_commands.specs.cat_ledger_state.startup.Opened.{HasOpened, IsOpenedAtCommit, IsOpenedEmpty}
 use Rattle.cat_commands.specs.cat_ledger_state.startup.Refused.{IsNewestDamaged, IsNewestForeign}
 use Rattle.cat_commands.specs.cat_ledger.Openings.{IsOpenedLedger}
 use Rattle.cat_commands.proofs.ledger_laws.Swept.{KeepsUsed}
 use Rattle.cat_commands.specs.views.Holding.{AreRights}
-use Rattle.cat_service.specs.Opening.{BeginsIn, HasSchemaText, HoldsTable, OpensIn}
+use Rattle.cat_service.specs.Opening.{BeginsIn, HoldsTable, OpensIn}
+use Rattle.cat_model.specs.Reasons.{CountsRefusal}
 use Rattle.cat_commands.specs.cat_ledger.Lasting.{IsCarried}
 
 -- what is opened, and the run that begins there
@@ -149,3 +152,37 @@ refused_schema told line factor least text e spelled refused readable = elim (is
 pub begins_so : (told : ToldFiles) (line : Text) (factor least : ℕ) (text : Text) (schema : Schema) (r : Result Opened Refusal) → IsReadable line
     → SpellsSchema line factor least text → schema_of text ≡ Ok schema → OpensIn told schema r → BeginsIn told line r
 begins_so told line factor least text schema r readable spelled read opens = Begins.opened factor least text schema r readable spelled read opens
+
+-- ---- what a refused opening counts
+
+-- a refusal that comes before the directory is asked counts nothing
+unasked : (fails : Type 0) (n : ℕ) (e : Refusal) → e ≢ Device → CountsRefusal fails n n e
+unasked fails n e differs = ((λ is. absurd (differs is)), λ other. refl)
+
+pub formless_unasked : (fails : Type 0) (n : ℕ) → CountsRefusal fails n n NoForm
+formless_unasked fails n = unasked fails n NoForm (λ h. cc h)
+
+no_failed_schema : (o : Option Schema) → ◌≡◌ {A = Result Schema Refusal} (ok_or o Kind) (Err Device) → ⊥
+no_failed_schema None is = absurd (let no : ◌≡◌ {A = Result Schema Refusal} (Err Kind) (Err Device) = is in cc)
+no_failed_schema (Some s) is = absurd (let no : ◌≡◌ {A = Result Schema Refusal} (Ok s) (Err Device) = is in cc)
+
+never_failed : {A : Type 0} (f : A → Option Schema) (o : Option A)
+    → ◌≡◌ {A = Result Schema Refusal} (option_map_or (λ x. ok_or (f x) Kind) o (Err NoJson)) (Err Device) → ⊥
+never_failed f None is = absurd (let no : ◌≡◌ {A = Result Schema Refusal} (Err NoJson) (Err Device) = is in cc)
+never_failed f (Some x) is = no_failed_schema (f x) is
+
+device_differs : Device ≢ Memory
+device_differs = λ h. cc h
+
+-- nor does one of the text of a schema
+pub schema_unasked : (fails : Type 0) (n : ℕ) (text : Text) (e : Refusal) → (e ≢ Memory → schema_of text ≡ Err e) → CountsRefusal fails n n e
+schema_unasked fails n text e refused =
+    unasked fails n e (λ is. never_failed _ (json_of text) (subst (λ x. schema_of text ≡ Err x) is (refused (λ memory. device_differs (sym is ∙ memory)))))
+
+-- what the ledger's opening counts is counted so
+pub opening_counts : (fails : Type 0) (old new : ℕ) (e : Refusal) → (e ≡ Device → fails) → OpeningCount old new e → CountsRefusal fails old new e
+opening_counts fails old new Kind device counted = ((λ is. absurd (let no : Kind ≡ Device = is in cc)), λ other. counted)
+opening_counts fails old new Damaged device counted = ((λ is. absurd (let no : Damaged ≡ Device = is in cc)), λ other. counted)
+opening_counts fails old new Memory device counted = ((λ is. absurd (let no : Memory ≡ Device = is in cc)), λ other. counted)
+opening_counts fails old new Device device counted = ((λ is. (device is, counted)), λ other. absurd (other refl))
+opening_counts fails old new _ device counted = absurd counted

@@ -17,7 +17,7 @@ use Rattle.cat_model.specs.View.{View}
 use Rattle.cat_directory.specs.Devices.{CountsOne, FileContent}
 use Rattle.cat_directory.specs.declared.name.FileName.{FileName}
 use Rattle.cat_commands.specs.views.Holding.{said_open}
-use Rattle.cat_commands.specs.ledger.Chores.{FailsFor, IsWarmTold, KeepsBehind, MayRefuse, MayRefuseForce, MayRefuseMerge, ReachesFor, TellsChore, chore_of}
+use Rattle.cat_commands.specs.ledger.Chores.{IsSwept, IsWarmTold, KeepsBehind, MayRefuse, MayRefuseForce, MayRefuseMerge, ReachesFor, TellsChore, chore_of}
 use Rattle.cat_commands.specs.declared.ledger.chores.Chore as code_chore
 use Rattle.cat_commands.specs.declared.ledger.chores.Chore.TheVariants.{Force, Merge, Stat, Sweep}
 use Rattle.cat_commands.specs.cat_cached_sets.filters.Filters.{Filters}
@@ -25,7 +25,7 @@ use Rattle.cat_commands.specs.cat_ledger.Answering.{AnswersSaid}
 use Rattle.cat_commands.specs.cat_ledger.Histories.{GoesBy}
 use Rattle.cat_commands.specs.cat_ledger.Ledgers.{LedgerOnDevice, device_in, policy_in, shape_in}
 use Rattle.cat_commands.specs.cat_ledger.Refusals.{KeepsMerge}
-use Rattle.cat_commands.specs.cat_ledger_state.Cores.{HasRowsLeft, MayCopy, MayNotFlush}
+use Rattle.cat_commands.specs.cat_ledger_state.Cores.{LacksInput, LacksToCopy, MayCopy, MayNotFlush}
 use Rattle.cat_ledger_laws.specs.lines.LineLaws.{line_of}
 use Rattle.cat_ledger_laws.specs.lines.ReadLaws.{IsRecordedAs}
 use Rattle.cat_ledger_laws.specs.lines.RunLaws as lines
@@ -37,7 +37,7 @@ use Rattle.cat_commands.specs.cat_protocol.declared.replies.answer.Answer as cod
 use Rattle.cat_commands.specs.cat_protocol.cat_views.Holds.{HeldView}
 use Rattle.cat_commands.specs.cat_protocol.cat_views.Sources.{HoldsSource, MayReachSource, TellsSource}
 use Rattle.cat_service.specs.Serving.{MayFailBy}
-use Rattle.cat_service.specs.Causes.{HasCause, IsDamagedTo, IsSpentTo, KeepsIfRefused, MayFailTo, MayReachTo, TellsSo}
+use Rattle.cat_service.specs.Causes.{HasCause, IsDamagedTo, IsSpentTo, KeepsIfRefused, MayFailTo, MayReachTo, SweepsSo, TellsSo}
 use Rattle.cat_service.specs.Lines.{IsCommandOf}
 use Rattle.cat_service.specs.Worlds.{Service}
 use Rattle.cat_commands.specs.cat_ledger.Lasting.{IsCarried}
@@ -66,6 +66,12 @@ kept_so : (A : Type 0) (P : Reply → Type 0) → ((a : Answer) → P (Ok a)) �
 kept_so A P ok err (Ok a) h = ok (answer_of a)
 kept_so A P ok err (Err e) h = err e h
 
+-- what a refusal leaves as it was counted nothing
+pub quiet_kept : {D : Type 0} (faults : D → ℕ) (old left : LedgerOnDevice D) (result : Result code.Answer Refusal) → OnErr result (left ≡ old)
+    → reply_of result ≡ Err Memory → faults (device_in left) ≡ faults (device_in old)
+quiet_kept faults old left (Ok a) same is = absurd (let no : ◌≡◌ {A = Reply} (Ok (answer_of a)) (Err Memory) = is in cc)
+quiet_kept faults old left (Err e) same is = ap (λ l. faults (device_in l)) same
+
 module _ {D : Type 0} (bytes : D → ToldFiles) (can_fail : D → Type 0) (faults : D → ℕ) (old : LedgerOnDevice D) (rights : List HeldView) (f : Filters)
     (result : Result code.Answer Refusal) (left : LedgerOnDevice D) (rights' : List HeldView) (f' : Filters) where
   abbrev world : Service D
@@ -76,6 +82,10 @@ module _ {D : Type 0} (bytes : D → ToldFiles) (can_fail : D → Type 0) (fault
 
   abbrev Counted : Type 0
   Counted = CountsOne (faults (device_in old)) (faults (device_in left))
+
+  -- no failure is counted
+  abbrev Quiet : Type 0
+  Quiet = faults (device_in left) ≡ faults (device_in old)
 
   -- no failure is forgotten
   abbrev Rises : Type 0
@@ -93,29 +103,33 @@ module _ {D : Type 0} (bytes : D → ToldFiles) (can_fail : D → Type 0) (fault
 
   pub put_caused : (text : Text)
       → IfErr result (λ e. e ≡ Spent → (last_number ≤ (shape_in old).count) ⊎ ((buffer_limit ≤ length (shape_in old).buffered) × MayNotFlush (shape_in old)))
-      → IfErr result (λ e. e ≡ Device → can_fail (device_in old)) → IfErr result (λ e. e ≡ Device → Counted) → Rises → OnErr result KeepsMaking
-      → Causes (Said.put text)
-  put_caused text spent device counted rises stays = record {
+      → IfErr result (λ e. e ≡ Device → can_fail (device_in old)) → IfErr result (λ e. e ≡ Device → Counted) → IfErr result (λ e. e ≡ Memory → Quiet) → Rises
+      → OnErr result KeepsMaking → Causes (Said.put text)
+  put_caused text spent device counted quiet rises stays = record {
     spent = given_so (IsSpentTo (policy_in old) (shape_in old) (Some (Said.put text))) Spent result Spent spent refl;
     device = given_so (can_fail (device_in old)) Device result Device device refl;
     counted = given_so Counted Device result Device counted refl;
     damaged = λ k. tt;
     reached = λ k. tt;
+    quiet = given_so Quiet Memory result Memory quiet refl;
     told = tt;
+    swept = tt;
     rises = rises;
     stays = tt;
     keeps = kept_so KeepsMaking (Keeps (Said.put text)) (λ a. tt) (λ e kept. kept) result stays;
   }
 
   pub refresh_caused : IfErr result (λ e. e ≡ Spent → MayNotFlush (shape_in old)) → IfErr result (λ e. e ≡ Device → can_fail (device_in old))
-      → IfErr result (λ e. e ≡ Device → Counted) → Rises → OnErr result KeepsMaking → Causes Said.refresh
-  refresh_caused spent device counted rises stays = record {
+      → IfErr result (λ e. e ≡ Device → Counted) → IfErr result (λ e. e ≡ Memory → Quiet) → Rises → OnErr result KeepsMaking → Causes Said.refresh
+  refresh_caused spent device counted quiet rises stays = record {
     spent = given_so (MayNotFlush (shape_in old)) Spent result Spent spent refl;
     device = given_so (can_fail (device_in old)) Device result Device device refl;
     counted = given_so Counted Device result Device counted refl;
     damaged = λ k. tt;
     reached = λ k. tt;
+    quiet = given_so Quiet Memory result Memory quiet refl;
     told = tt;
+    swept = tt;
     rises = rises;
     stays = tt;
     keeps = kept_so KeepsMaking (Keeps Said.refresh) (λ a. tt) (λ e kept. kept) result stays;
@@ -125,23 +139,26 @@ module _ {D : Type 0} (bytes : D → ToldFiles) (can_fail : D → Type 0) (fault
       → IfErr result (λ e. e ≡ Damaged → (view : View) → IsRecordedAs (shape_in old).views t view → (files : ℕ → List ℕ)
       → TellsSource (bytes (device_in old)) files view id → HoldsSource files view id → ⊥)
       → IfErr result (λ e. e ≡ Memory → (view : View) → IsRecordedAs (shape_in old).views t view → MayReachSource (bytes (device_in old)) view id)
-      → IfErr result (λ e. e ≡ Device → can_fail (device_in old)) → IfErr result (λ e. e ≡ Device → Counted) → Rises → Causes (Said.get t id)
-  get_caused t id damaged reach device counted rises = record {
+      → IfErr result (λ e. e ≡ Device → can_fail (device_in old)) → IfErr result (λ e. e ≡ Device → Counted) → IfErr result (λ e. e ≡ Memory → Quiet) → Rises
+      → Causes (Said.get t id)
+  get_caused t id damaged reach device counted quiet rises = record {
     spent = λ k. tt;
     device = given_so (can_fail (device_in old)) Device result Device device refl;
     counted = given_so Counted Device result Device counted refl;
     damaged = given_so (IsDamagedTo (bytes (device_in old)) (shape_in old) (Some (Said.get t id))) Damaged result Damaged damaged refl;
     reached = given_so (MayReachTo (bytes (device_in old)) (shape_in old) (Some (Said.get t id))) Memory result Memory reach refl;
+    quiet = given_so Quiet Memory result Memory quiet refl;
     told = tt;
+    swept = tt;
     rises = rises;
     stays = tt;
     keeps = tt;
   }
 
   -- an OPEN, of which the run says what it is told
-  pub open_caused : (token : Option ℕ) → Rises → Causes (said_open token)
-  open_caused None rises = record { spent = λ k. tt; device = λ k. tt; counted = λ k. tt; damaged = λ k. tt; reached = λ k. tt; told = tt; rises = rises; stays = tt; keeps = tt }
-  open_caused (Some t) rises = record { spent = λ k. tt; device = λ k. tt; counted = λ k. tt; damaged = λ k. tt; reached = λ k. tt; told = tt; rises = rises; stays = tt; keeps = tt }
+  pub open_caused : (token : Option ℕ) → Quiet → Rises → Causes (said_open token)
+  open_caused None quiet rises = record { spent = λ k. tt; device = λ k. tt; counted = λ k. tt; damaged = λ k. tt; reached = λ k. tt; quiet = λ k. quiet; told = tt; swept = tt; rises = rises; stays = tt; keeps = tt }
+  open_caused (Some t) quiet rises = record { spent = λ k. tt; device = λ k. tt; counted = λ k. tt; damaged = λ k. tt; reached = λ k. tt; quiet = λ k. quiet; told = tt; swept = tt; rises = rises; stays = tt; keeps = tt }
 
   -- ---- COMMIT
 
@@ -180,9 +197,9 @@ module _ {D : Type 0} (bytes : D → ToldFiles) (can_fail : D → Type 0) (fault
       → IfErr (commit_text_of text) (λ e. (result ≡ Err e) × (left ≡ old))
       → (commit_text_of text ≡ Ok text → IfErr result (λ e. e ≡ Spent → (last_number < (shape_in old).next_generation) ⊎ MayNotFlush (shape_in old)))
       → (commit_text_of text ≡ Ok text → IfErr result (λ e. e ≡ Device → can_fail (device_in old)))
-      → (commit_text_of text ≡ Ok text → IfErr result (λ e. e ≡ Device → Counted))
+      → (commit_text_of text ≡ Ok text → IfErr result (λ e. e ≡ Device → Counted)) → IfErr result (λ e. e ≡ Memory → Quiet)
       → GoesBy may (Some (Said.commit text)) (reply_of result) old left → Rises → OnErr result KeepsMaking → Causes (Said.commit text)
-  commit_caused may text wrong spent device counted goes rises stays = record {
+  commit_caused may text wrong spent device counted quiet goes rises stays = record {
     spent = λ k.
         given_so ((last_number < (shape_in old).next_generation) ⊎ MayNotFlush (shape_in old)) Spent result Spent
         (spent (right_text (left ≡ old) text Spent (λ e. cc e) (λ e. cc e) wrong k)) refl k;
@@ -190,7 +207,9 @@ module _ {D : Type 0} (bytes : D → ToldFiles) (can_fail : D → Type 0) (fault
     counted = λ k. given_so Counted Device result Device (counted (right_text (left ≡ old) text Device (λ e. cc e) (λ e. cc e) wrong k)) refl k;
     damaged = λ k. tt;
     reached = λ k. tt;
+    quiet = given_so Quiet Memory result Memory quiet refl;
     told = commit_told may text (reply_of result) left goes;
+    swept = tt;
     rises = rises;
     stays = if_wrong (left ≡ old) (commit_text_of text) wrong;
     keeps = kept_so KeepsMaking (Keeps (Said.commit text)) (λ a. tt) (λ e kept. kept) result stays;
@@ -204,14 +223,16 @@ module _ {D : Type 0} (bytes : D → ToldFiles) (can_fail : D → Type 0) (fault
   warm_told (Ok a) told = told
   warm_told (Err e) told = tt
 
-  pub warm_caused : IfOk result (λ a. IsWarmTold (shape_in old) f f' (answer_of a)) → Rises → Causes (Said.chore Chore.warm)
-  warm_caused told rises = record {
+  pub warm_caused : IfOk result (λ a. IsWarmTold (shape_in old) f f' (answer_of a)) → Quiet → Rises → Causes (Said.chore Chore.warm)
+  warm_caused told quiet rises = record {
     spent = λ k. tt;
     device = λ k. tt;
     counted = λ k. tt;
     damaged = λ k. tt;
     reached = λ k. tt;
+    quiet = λ k. quiet;
     told = warm_told result told;
+    swept = tt;
     rises = rises;
     stays = tt;
     keeps = tt;
@@ -279,6 +300,11 @@ module _ {D : Type 0} (bytes : D → ToldFiles) (can_fail : D → Type 0) (fault
     maintain_told Sweep (Err e) foreign answers told = tt
     maintain_told Stat (Err e) foreign answers told = tt
 
+    -- what is swept, as it is answered
+    sweep_told : (r : Result code.Answer Refusal) → IfOk r (λ a. IsSwept bytes old left) → SweepsSo bytes old left (Some (Said.chore Chore.sweep)) (reply_of r)
+    sweep_told (Ok a) swept = swept
+    sweep_told (Err e) swept = tt
+
     -- when it is refused
     module _ {A : Type 0} (foreign : session ≢ 0 → (result ≡ Err NoForm) × A) where
       apart : (e : Refusal) → NoForm ≢ e → ◌≡◌ {A = Reply} (Err NoForm) (Err e) → ⊥
@@ -293,45 +319,80 @@ module _ {D : Type 0} (bytes : D → ToldFiles) (can_fail : D → Type 0) (fault
           → MayRefuseForce (shape_in old) e
       force_may may e differs k = refused_so (MayRefuseForce (shape_in old)) result e (may (zero session (Err e) (apart e differs) foreign k)) k
 
+      -- what a MERGE lacks, where it is told of damage
+      abbrev Lacks : Type 0
+      Lacks = LacksToCopy (bytes (device_in old)) (shape_in old).merging × LacksInput (bytes (device_in old)) (shape_in old).merging
+
       refuses : (chore : code_chore.Chore) → (session ≡ 0 → IfErr result (MayRefuse (policy_in old) (shape_in old) chore))
+          → (chore ≡ Merge → IfErr result (λ e. e ≡ Damaged → Lacks))
           → IfErr result (λ e. e ≡ Memory → ReachesFor chore (bytes (device_in old)) (shape_in old).merging)
-          → IfErr result (λ e. e ≡ Device → FailsFor chore (shape_in old).merging (can_fail (device_in old))) → IfErr result (λ e. e ≡ Device → Counted)
-          → TellsSo (policy_in old) (shape_in old) f f' (Some (Said.chore (chore_of chore))) (reply_of result) → Rises
+          → IfErr result (λ e. e ≡ Device → can_fail (device_in old)) → IfErr result (λ e. e ≡ Device → Counted)
+          → IfErr result (λ e. e ≡ Memory → Quiet)
+          → TellsSo (policy_in old) (shape_in old) f f' (Some (Said.chore (chore_of chore))) (reply_of result)
+          → (chore ≡ Sweep → IsCarried (bytes (device_in old)) (shape_in old) → IfOk result (λ a. IsSwept bytes old left)) → Rises
           → OnErr result (KeepsBehind chore (shape_in old) (shape_in left)) → Causes (Said.chore (chore_of chore))
-      refuses Merge may reach device counted told rises keeps = record {
+      refuses Merge may lacks reach device counted quiet told swept rises keeps = record {
         spent = λ k. (merge_may may Spent (λ e. cc e) k).spent refl;
-        device = given_so (HasRowsLeft (shape_in old).merging ⊎ can_fail (device_in old)) Device result Device device refl;
+        device = given_so (can_fail (device_in old)) Device result Device device refl;
         counted = given_so Counted Device result Device counted refl;
-        damaged = λ k. (merge_may may Damaged (λ e. cc e) k).damaged refl;
+        damaged = λ k. let lacking = given_so Lacks Damaged result Damaged (lacks refl) refl k in ((merge_may may Damaged (λ e. cc e) k).damaged refl, lacking.0, lacking.1);
         reached = given_so (MayCopy (bytes (device_in old)) (shape_in old).merging) Memory result Memory reach refl;
+        quiet = given_so Quiet Memory result Memory quiet refl;
         told = told;
+        swept = tt;
         rises = rises;
         stays = tt;
         keeps = kept_so (KeepsBehind Merge (shape_in old) (shape_in left)) (Keeps (Said.chore Chore.merge)) (λ a. tt) (λ e kept. kept) result keeps;
       }
-      refuses Force may reach device counted told rises keeps = record {
+      refuses Force may lacks reach device counted quiet told swept rises keeps = record {
         spent = λ k. let m = force_may may Spent (λ e. cc e) k in (m.due, m.spent refl);
         device = given_so (can_fail (device_in old)) Device result Device device refl;
         counted = given_so Counted Device result Device counted refl;
         damaged = λ k. tt;
         reached = λ k. tt;
+        quiet = given_so Quiet Memory result Memory quiet refl;
         told = told;
+        swept = tt;
         rises = rises;
         stays = tt;
         keeps = kept_so (KeepsBehind Force (shape_in old) (shape_in left)) (Keeps (Said.chore Chore.force)) (λ a. tt) (λ e kept. kept) result keeps;
       }
-      refuses Sweep may reach device counted told rises keeps =
-          record { spent = λ k. tt; device = given_so (can_fail (device_in old)) Device result Device device refl; counted = given_so Counted Device result Device counted refl; damaged = λ k. tt; reached = λ k. tt; told = told; rises = rises; stays = tt; keeps = tt }
-      refuses Stat may reach device counted told rises keeps =
-          record { spent = λ k. tt; device = λ k. tt; counted = λ k. tt; damaged = λ k. tt; reached = λ k. tt; told = told; rises = rises; stays = tt; keeps = tt }
+      refuses Sweep may lacks reach device counted quiet told swept rises keeps = record {
+        spent = λ k. tt;
+        device = given_so (can_fail (device_in old)) Device result Device device refl;
+        counted = given_so Counted Device result Device counted refl;
+        damaged = λ k. tt;
+        reached = λ k. tt;
+        quiet = given_so Quiet Memory result Memory quiet refl;
+        told = told;
+        swept = sweep_told result (swept refl carried);
+        rises = rises;
+        stays = tt;
+        keeps = tt;
+      }
+      refuses Stat may lacks reach device counted quiet told swept rises keeps = record {
+        spent = λ k. tt;
+        device = λ k. tt;
+        counted = λ k. tt;
+        damaged = λ k. tt;
+        reached = λ k. tt;
+        quiet = given_so Quiet Memory result Memory quiet refl;
+        told = told;
+        swept = tt;
+        rises = rises;
+        stays = tt;
+        keeps = tt;
+      }
 
       pub chore_caused : (chore : code_chore.Chore) → AnswersSaid bytes session (Said.chore (chore_of chore)) old (reply_of result) left
           → IfOk result (λ a. TellsChore (length f.cached) (shape_in old) chore (answer_of a)) → (session ≡ 0 → IfErr result (MayRefuse (policy_in old) (shape_in old) chore))
-          → IfErr result (λ e. e ≡ Memory → ReachesFor chore (bytes (device_in old)) (shape_in old).merging)
-          → IfErr result (λ e. e ≡ Device → FailsFor chore (shape_in old).merging (can_fail (device_in old))) → IfErr result (λ e. e ≡ Device → Counted) → Rises
+          → (chore ≡ Merge → IfErr result (λ e. e ≡ Damaged → Lacks)) → IfErr result (λ e. e ≡ Memory → ReachesFor chore (bytes (device_in old)) (shape_in old).merging)
+          → IfErr result (λ e. e ≡ Device → can_fail (device_in old)) → IfErr result (λ e. e ≡ Device → Counted)
+          → IfErr result (λ e. e ≡ Memory → Quiet)
+          → (chore ≡ Sweep → IsCarried (bytes (device_in old)) (shape_in old) → IfOk result (λ a. IsSwept bytes old left)) → Rises
           → OnErr result (KeepsBehind chore (shape_in old) (shape_in left)) → Causes (Said.chore (chore_of chore))
-      chore_caused chore answers told may reach device counted rises keeps =
-          refuses chore may reach device counted (maintain_told chore result (λ k. (foreign k).0) answers told) rises keeps
+      chore_caused chore answers told may lacks reach device counted quiet swept rises keeps =
+          refuses chore may lacks reach device counted quiet (maintain_told chore result (λ k. (foreign k).0) answers told) swept rises keeps
 
 -- ---- of commands
 
@@ -356,34 +417,34 @@ failing_by can_fail device s schema (Some (Said.text_of_commit g)) c is m = subs
 failing_by can_fail device s schema (Some Said.snapshot) c is m = subst (MayFailBy (can_fail device)) (sym is) tt
 failing_by can_fail device s schema (Some (Said.release_snapshot g)) c is m = subst (MayFailBy (can_fail device)) (sym is) tt
 failing_by can_fail device s schema (Some (Said.prune n)) c is m = subst (MayFailBy (can_fail device)) (sym is) tt
-failing_by can_fail device s schema (Some (Said.chore Chore.merge)) c is m = subst (MayFailBy (can_fail device)) (sym is) tt
+failing_by can_fail device s schema (Some (Said.chore Chore.merge)) c is m = subst (MayFailBy (can_fail device)) (sym is) m
 failing_by can_fail device s schema (Some (Said.chore Chore.force)) c is m = subst (MayFailBy (can_fail device)) (sym is) m
 failing_by can_fail device s schema (Some (Said.chore Chore.sweep)) c is m = subst (MayFailBy (can_fail device)) (sym is) m
 failing_by can_fail device s schema (Some (Said.chore Chore.warm)) c is m = subst (MayFailBy (can_fail device)) (sym is) tt
 failing_by can_fail device s schema (Some (Said.chore Chore.stat)) c is m = subst (MayFailBy (can_fail device)) (sym is) tt
 
--- Where the run lets the command be told that the device failed, the one can fail where the other does, or the command is a MERGE.
-pub failing_on : (A B : Type 0) → (A → B) → (c : Command) → IsTrue (may_refuse c Device) → MayFailBy A c → B ⊎ (c ≡ Command.chore Chore.merge)
+-- Where the run lets the command be told that the device failed, the one can fail where the other does.
+pub failing_on : (A B : Type 0) → (A → B) → (c : Command) → IsTrue (may_refuse c Device) → MayFailBy A c → B
 failing_on A B f Command.formless may m = absurd (cc may)
-failing_on A B f (Command.put item) may m = inl (f m)
+failing_on A B f (Command.put item) may m = f m
 failing_on A B f (Command.delete id) may m = absurd (cc may)
 failing_on A B f (Command.delete_where q) may m = absurd (cc may)
-failing_on A B f Command.refresh may m = inl (f m)
+failing_on A B f Command.refresh may m = f m
 failing_on A B f Command.open_newest may m = absurd (cc may)
 failing_on A B f (Command.open_at t) may m = absurd (cc may)
 failing_on A B f (Command.close t) may m = absurd (cc may)
 failing_on A B f (Command.read t (Read.find n sort mark q)) may m = absurd (cc may)
 failing_on A B f (Command.read t (Read.facets dim n q)) may m = absurd (cc may)
-failing_on A B f (Command.read t (Read.get id)) may m = inl (f m)
+failing_on A B f (Command.read t (Read.get id)) may m = f m
 failing_on A B f (Command.prune n) may m = absurd (cc may)
-failing_on A B f (Command.commit text) may m = inl (f m)
+failing_on A B f (Command.commit text) may m = f m
 failing_on A B f Command.snapshot may m = absurd (cc may)
 failing_on A B f (Command.release_snapshot g) may m = absurd (cc may)
 failing_on A B f (Command.files_of_token t) may m = absurd (cc may)
 failing_on A B f (Command.files_of_commit g) may m = absurd (cc may)
 failing_on A B f (Command.text_of_commit g) may m = absurd (cc may)
-failing_on A B f (Command.chore Chore.merge) may m = inr refl
-failing_on A B f (Command.chore Chore.force) may m = inl (f m)
+failing_on A B f (Command.chore Chore.merge) may m = f m
+failing_on A B f (Command.chore Chore.force) may m = f m
 failing_on A B f (Command.chore Chore.warm) may m = absurd (cc may)
-failing_on A B f (Command.chore Chore.sweep) may m = inl (f m)
+failing_on A B f (Command.chore Chore.sweep) may m = f m
 failing_on A B f (Command.chore Chore.stat) may m = absurd (cc may)

@@ -9,6 +9,7 @@ pub mod Begun
 pub mod Hearing
 pub mod Moved
 pub mod Gets
+pub mod Lacking
 pub mod Reasoned
 pub mod Opens
 pub mod Settled

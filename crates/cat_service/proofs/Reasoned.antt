@@ -3,7 +3,7 @@ use Rattle.std.proofs.Common.{◌≡◌, ◌≢◌, ℕ, ◌+◌, ◌<◌, ◌�
 use Rattle.std.specs.Prelude.{◌⊎◌, Option, None, Some, Result, Ok, Err, IsTrue, option_map}
 use Rattle.std.proofs.lemmas.List.{length-map}
 use Rattle.cat_base.specs.declared.refusal.Refusal.{Refusal}
-use Rattle.cat_base.specs.declared.refusal.Refusal.TheVariants.{Damaged, Device, Id, Spent}
+use Rattle.cat_base.specs.declared.refusal.Refusal.TheVariants.{Damaged, Device, Id, Memory, Spent}
 use Rattle.cat_model.specs.Answer.{Found, Read}
 use Rattle.cat_model.specs.Heard.{IsCommand, commit_text_of, id_of}
 use Rattle.cat_model.specs.Item.{Record, Schema, is_id}
@@ -24,7 +24,7 @@ use Rattle.cat_commands.specs.cat_cached_sets.filters.Filters.{Filters}
 use Rattle.cat_commands.specs.cat_ledger.Lasting.{AlwaysTells}
 use Rattle.cat_commands.specs.cat_ledger_state.Cores.{HasRowsLeft, MayNotFlush}
 use Rattle.cat_commands.specs.cat_ledger.upkeep.Due.{IsMergeDue}
-use Rattle.cat_commands.specs.ledger.Chores.{segment_told}
+use Rattle.cat_commands.specs.ledger.Chores.{pending_in, segment_told}
 use Rattle.cat_ledger_laws.specs.lines.PlanLaws.{TellsForce, TellsMerge, live_sets_in, sizes_in}
 use Rattle.cat_ledger_laws.specs.lines.RunLaws.{ReplyLike, IsShown, Stands}
 use Rattle.cat_ledger_laws.specs.model.Ledger.{Ledger, view_shown}
@@ -33,8 +33,9 @@ use Rattle.cat_ledger_laws.specs.model.Portions.{Merging, leaf_of}
 use Rattle.cat_ledger_laws.specs.shape.Shapes.{MergingShape, Shape, merging_shape, recorded_view, shape_of as shape_of_ledger}
 use Rattle.cat_ledger_laws.specs.shape.Ties.{ToldFiles}
 use Rattle.cat_service.proofs.Gets.{damaged_get}
+use Rattle.cat_service.proofs.Lacking.{no_input_lacks}
 use Rattle.cat_service.proofs.Moved.{IsTakenBy, Moved, calls_move, writes_by}
-use Rattle.cat_service.specs.Causes.{IsCountedTo, IsDamagedTo, IsSpentTo, TakesNumbers, TellsSo}
+use Rattle.cat_service.specs.Causes.{IsCountedTo, IsDamagedTo, IsSpentTo, SweepsSo, TakesNumbers, TellsSo}
 use Rattle.cat_service.specs.Lines.{IsCommandOf}
 use Rattle.cat_service.specs.Reasons.{IsCausedBy, progress_of, standing_of_service}
 use Rattle.cat_model.specs.Standings.{ForceTells, HasNoRoom, HasReason, IsDamagedFor, IsSpentFor, IsToForce, IsToldOf, IsToMerge, MergeTells, MovesOn, Progress, Standing, segment_rows}
@@ -363,7 +364,14 @@ module _ {D : Type 0} (bytes : D → ToldFiles) (can_fail : D → Type 0) (fault
       by (Some Said.snapshot) is m = subst (DamagedFor from past) (sym is) tt
       by (Some (Said.release_snapshot g)) is m = subst (DamagedFor from past) (sym is) tt
       by (Some (Said.prune n)) is m = subst (DamagedFor from past) (sym is) tt
-      by (Some (Said.chore Chore.merge)) is m = subst (DamagedFor from past) (sym is) (rows_left s.merging m)
+      by (Some (Said.chore Chore.merge)) is m =
+          let left = rows_left s.merging m.0 in
+          subst (DamagedFor from past) (sym is) (
+            (λ always. no_input_lacks (bytes (device_of old)) s stands.ledger stands.files stands.carries (λ q. always (device_of old) q) m.2),
+            left.0,
+            left.1,
+            left.2,
+          )
       by (Some (Said.chore Chore.force)) is m = subst (DamagedFor from past) (sym is) tt
       by (Some (Said.chore Chore.warm)) is m = subst (DamagedFor from past) (sym is) tt
       by (Some (Said.chore Chore.sweep)) is m = subst (DamagedFor from past) (sym is) tt
@@ -446,17 +454,61 @@ Tries tried after old new c r =
     (after ≡ tried) ⊎ ((refuses_commit c r ≡ true)
     × (after ≡ (shape_of_service old).next_generation ∷ tried) × ((shape_of_service old).next_generation < (shape_of_service new).next_generation))
 
+-- a SWEEP that is answered leaves nothing that waits
+abbrev pub Sweeps : {D : Type 0} → Service D → Command → Reply → Type 0
+Sweeps new c r = (a : Answer) → c ≡ Command.chore Chore.sweep → r ≡ Ok a → pending_in (shape_of_service new) ≡ 0
+
+abbrev is_sweep : Command → Bool
+is_sweep (Command.chore Chore.sweep) = true
+is_sweep c = false
+
+no_sweep : (c d : Command) → c ≡ d → is_sweep d ≡ false → c ≡ Command.chore Chore.sweep → ⊥
+no_sweep c d is other sweeps = true≢false (ap is_sweep (sym sweeps ∙ is) ∙ other)
+
 -- one that is told what is found isn't refused
 found_no_refusal : (c : Command) (f : Found) → refuses_commit c (Ok (Answer.found f)) ≡ true → ⊥
 found_no_refusal (Command.commit (Ok text)) f m = absurd (cc m)
 found_no_refusal _ f m = absurd (cc m)
 
 module _ {D : Type 0} (bytes : D → ToldFiles) (can_fail : D → Type 0) (faults : D → ℕ) (tried after : List ℕ) where
+  -- what waited is gone behind a SWEEP, as it is told
+  swept_for : (old new : Service D) (schema : Schema) (said : Option Said) (c : Command) (r : Reply) → IsCommandOf schema said c
+      → SweepsSo bytes old.ledger new.ledger said r → Sweeps new c r
+  swept_for old new schema said c r is m a sweeps ok = by said is (subst (SweepsSo bytes old.ledger new.ledger said) ok m)
+    where
+      other : (d : Command) → c ≡ d → is_sweep d ≡ false → pending_in (shape_of_service new) ≡ 0
+      other d same none = absurd (no_sweep c d same none sweeps)
+
+      by : (said : Option Said) → IsCommandOf schema said c → SweepsSo bytes old.ledger new.ledger said (Ok a) → pending_in (shape_of_service new) ≡ 0
+      by (Some (Said.chore Chore.sweep)) is m = m.done
+      by None is m = other Command.formless is refl
+      by (Some (Said.put text)) is m = other _ is refl
+      by (Some (Said.delete text)) is m = other _ is refl
+      by (Some (Said.delete_where text)) is m = other _ is.2 refl
+      by (Some Said.refresh) is m = other _ is refl
+      by (Some Said.open_newest) is m = other _ is refl
+      by (Some (Said.open_at t)) is m = other _ is refl
+      by (Some (Said.close t)) is m = other _ is refl
+      by (Some (Said.find t n sort mark text)) is m = other _ is.2 refl
+      by (Some (Said.facets t dim n text)) is m = other _ is.2 refl
+      by (Some (Said.get t text)) is m = other _ is refl
+      by (Some (Said.files_of_token t)) is m = other _ is refl
+      by (Some (Said.files_of_commit g)) is m = other _ is refl
+      by (Some (Said.commit text)) is m = other _ is refl
+      by (Some (Said.text_of_commit g)) is m = other _ is refl
+      by (Some Said.snapshot) is m = other _ is refl
+      by (Some (Said.release_snapshot g)) is m = other _ is refl
+      by (Some (Said.prune n)) is m = other _ is refl
+      by (Some (Said.chore Chore.merge)) is m = other _ is refl
+      by (Some (Said.chore Chore.force)) is m = other _ is refl
+      by (Some (Said.chore Chore.warm)) is m = other _ is refl
+      by (Some (Said.chore Chore.stat)) is m = other _ is refl
+
   -- what a call made of a ledger is made of the standing that memory has of it
   moves_on : (old new : Service D) (c : Command) (r : Reply) (l l' : Ledger) → shape_of_ledger l ≡ shape_of_service old → shape_of_ledger l' ≡ shape_of_service new
-      → TakesNumbers (shape_of_service old) (shape_of_service new) → faults (device_of old) ≤ faults (device_of new) → Moved c r l l' → Tries tried after old new c r
+      → TakesNumbers (shape_of_service old) (shape_of_service new) → faults (device_of old) ≤ faults (device_of new) → Moved c r l l' → Sweeps new c r → Tries tried after old new c r
       → MovesOn (standing_of_service faults tried old) c r (standing_of_service faults after new)
-  moves_on old new c r l l' is is' numbers rises m tries = record {
+  moves_on old new c r l l' is is' numbers rises m swept tries = record {
     segment = numbers.segment;
     generation = numbers.generation;
     taken = λ text a commits ok.
@@ -479,6 +531,7 @@ module _ {D : Type 0} (bytes : D → ToldFiles) (can_fail : D → Type 0) (fault
       | inl gone ↦ inl (merging_gone l'.schema l'.merging (shape_of_service new).merging (ap (λ (x : Shape). x.merging) is') gone)
       | inr begun ↦ inr begun
     ];
+    swept = swept;
     failures = rises;
     tried = tries;
   }
@@ -509,6 +562,7 @@ module _ {D : Type 0} (bytes : D → ToldFiles) (can_fail : D → Type 0) (fault
         counted = λ k.
             counted_for bytes can_fail faults old tried from past e.line.session schema said c is (subst (λ r. Fits from past (record { line = e.line; reply = r })) k fits)
             (CountsOne (faults (device_of old)) (faults (device_of new))) (cause.counted (refused_alike Device e.reply fitting shown.alike k));
+        quiet = λ k. cause.quiet (refused_alike Memory e.reply fitting shown.alike k);
         damaged = λ k.
             damaged_for bytes can_fail faults old tried from past e.line.session schema said c is stands (subst (λ r. Fits from past (record { line = e.line; reply = r })) k fits)
             (cause.damaged (refused_alike Damaged e.reply fitting shown.alike k));
@@ -524,5 +578,7 @@ module _ {D : Type 0} (bytes : D → ToldFiles) (can_fail : D → Type 0) (fault
             let g = length-map (view_tokens from.start past) (table_recorded from.start past) in omega (arith, a, b, d, f, g));
         moves =
             moves_on old new c fitting l made.0 stands.carries.shape made.5.shape numbers cause.rises fit_moved
+            ((alike_on (Sweeps new c) (λ a b h x sweeps ok. h (Answer.found (Found.source (Some a))) sweeps refl) e.reply fitting shown.alike).0
+            (swept_for old new schema said c e.reply is cause.swept))
             ((alike_on (Tries tried after old new c) (λ a b h. sources_try c old new a b h) e.reply fitting shown.alike).0 tries);
       }

@@ -13,11 +13,10 @@ use Rattle.cat_model.specs.Files.{Name}
 use Rattle.cat_model.specs.Input.{ended_lines, lines_of}
 use Rattle.cat_model.specs.Answer.{Read}
 use Rattle.cat_model.specs.Run.{Chore, Command, Exchange, Fits, IsRun, Reply, Run, may_refuse, newest_commit, now}
-use Rattle.cat_model.specs.Served.{Answered, Begins, Ending, HeardAll, IsDue, Outcome, Refused, TellsFiles, exchange, heard, outcome_text, refused_text}
-use Rattle.cat_model.specs.Opens.{BeginsFrom}
+use Rattle.cat_model.specs.Served.{Answered, Begins, Ending, HeardAll, IsDue, Outcome, Refused, ServesBy, TellsFiles, exchange, heard, outcome_text, refused_text}
 use Rattle.cat_model.specs.Promised.{LeavesPromised, SurvivesCrash}
-use Rattle.cat_model.specs.Reasons.{CausesIn, HasTakenAll, IsCausedIn}
-use Rattle.cat_model.specs.Serving.{AreLike, FailsRightly, IsServedIn, ReplyLike, ServesIn, SparesUnserved, WantRightly}
+use Rattle.cat_model.specs.Reasons.{CausesIn, CountsRefusal, HasTakenAll, IsCausedIn}
+use Rattle.cat_model.specs.Serving.{AreLike, FailsRightly, IsServedIn, RefusesFirst, ReplyLike, ServesIn, WantRightly}
 use Rattle.cat_model.specs.Standings.{HasReason, HaveReasons, IsDamagedFor, Standing}
 use Rattle.cat_model.specs.Table.{Opened}
 use Rattle.cat_model.specs.Told.{DirectoryKind, TellsAlways}
@@ -40,10 +39,11 @@ use Rattle.cat_ledger_laws.specs.lines.RunLaws.{Stands}
 use Rattle.cat_ledger_laws.proofs.lines.Held.{promised_are_held}
 use Rattle.cat_ledger_laws.proofs.shape.Told.{file_of_name}
 use Rattle.cat_commands.specs.cat_protocol.serving.Machine.{IsAnsweredByMachine, Steps, opened_text, short_line}
-use Rattle.cat_commands.specs.cat_protocol.serving.Serving.{EndsBy, IsRefused, LeadsTo, RefusedAt}
+use Rattle.cat_commands.specs.cat_protocol.serving.Serving.{LeadsTo, RefusedAt}
 use Rattle.cat_commands.specs.cat_protocol.declared.serving.machine.Stage.{Stage}
 use Rattle.cat_commands.specs.cat_protocol.declared.serving.machine.Stage.TheVariants.{Open}
 use Rattle.cat_commands.specs.cat_protocol.declared.serving.machine.Unopened.{Unopened}
+use Rattle.cat_service.proofs.Begun.{formless_unasked}
 use Rattle.cat_service.proofs.Histories.{tolds_are_calls}
 use Rattle.cat_service.proofs.Reasoned.{reasoned}
 use Rattle.cat_service.proofs.Standing.{stands_first}
@@ -53,7 +53,7 @@ use Rattle.cat_service.proofs.Settled.{newest_settled, own_left}
 use Rattle.cat_service.proofs.Survived.{HasRefused, found_so, survives, tried_by, tried_more, tried_refused, tries_so}
 use Rattle.cat_service.proofs.Caused.{failing_on}
 use Rattle.cat_service.specs.Lines.{IsCommandOf}
-use Rattle.cat_service.specs.Opening.{BeginsIn, OpensWorld}
+use Rattle.cat_service.specs.Opening.{OpensWorld}
 use Rattle.cat_service.specs.Promises.{WorldLasts}
 use Rattle.cat_service.specs.Reasons.{OpensCaused, OpensSo, StepsCaused, standing_of_service}
 use Rattle.cat_service.specs.Serving.{ChangesByOutcome, OpensIfShort, StageLasts, StageOutlives, StepsIfShort, device_at}
@@ -110,7 +110,7 @@ may_be_told from past schema said e fitting is alike fits k =
 damaged_by : (one other : Type 0) → (other → one) → (from : Opened) (past : Run) (s : Standing) (c : Command) → IsDamagedFor one from past s c
     → IsDamagedFor other from past s c
 damaged_by one other f from past s (Command.read t (Read.get (Ok id))) d = λ o. d (f o)
-damaged_by one other f from past s (Command.chore Chore.merge) d = d
+damaged_by one other f from past s (Command.chore Chore.merge) d = ((λ o. d.0 (f o)), d.1, d.2, d.3)
 damaged_by one other f from past s _ d = d
 
 reason_by : (one other : Type 0) → (other → one) → (factor least : ℕ) (from : Opened) (past : Run) (s : Standing) (e : Exchange) (new : Standing)
@@ -118,6 +118,7 @@ reason_by : (one other : Type 0) → (other → one) → (factor least : ℕ) (f
 reason_by one other f factor least from past s e new h = record {
   spent = h.spent;
   counted = h.counted;
+  quiet = h.quiet;
   damaged = λ is. damaged_by one other f from past s e.line.command (h.damaged is);
   told = h.told;
   writes = h.writes;
@@ -150,17 +151,6 @@ module _ {D : Type 0} (bytes : D → ToldFiles) (may_leave : D → FileName → 
   opening_if_short device line w true o =
       absurd (let no : ◌≡◌ {A = Result (Service D) (Unopened D)} (Ok w) (Err (record { refusal = NoForm; seed = device })) = o in cc)
   opening_if_short device line w false o = o
-
-  refusal_if_short : (device : D) (line : Text) (u : Unopened D) (b : Bool) → nat_lt 10000 (length line) ≡ b
-      → OpensIfShort bytes may_leave can_fail device (if b then None else Some line) (Err u) → (u.refusal ≡ Memory) ⊎ BeginsIn (bytes device) line (Err u.refusal)
-  refusal_if_short device line u true long o =
-      let same : u ≡ record { refusal = NoForm; seed = device } = err_same u (record { refusal = NoForm; seed = device }) o in
-      inr (subst (λ x. BeginsIn (bytes device) line (Err x)) (sym (ap (λ x. x.refusal) same))
-      (Begins.formless (λ readable factor least text spelled. too_long line long readable)))
-    where
-      err_same : (a b : Unopened D) → ◌≡◌ {A = Result (Service D) (Unopened D)} (Err a) (Err b) → a ≡ b
-      err_same a b e = cc
-  refusal_if_short device line u false long o = elim o.0.0 [ inl stopped ↦ inl stopped.0 | inr begins ↦ inr begins ]
 
   -- the exchanges of the rest of a run have their causes, from how the one world stands to how the other does
   abbrev pub Reasons : Opened → Run → List ℕ → Service D → Run → List ℕ → Service D → Type 0
@@ -382,20 +372,40 @@ module _ {D : Type 0} (bytes : D → ToldFiles) (may_leave : D → FileName → 
             goes.newest goes.refused;
       }
 
-  refused_in : (device : D) (first : Text) (e : Refusal) → IsRefused (OpensCaused bytes may_leave can_fail faults device) first e
-      → (e ≡ Memory) ⊎ BeginsFrom json (kind.bytes device) first (Err e)
-  refused_in device first e (back, o) =
-      let long = nat_lt 10000 (length first) in
-      let u : Unopened D = record { refusal = e; seed = back } in
-      elim (refusal_if_short device first u long refl (opening_less device (if long then None else Some first) (Err u) o)) [
-        | inl memory ↦ inl memory
-        | inr begins ↦ inr (begins_from (bytes device) first (Err e) begins)
-      ]
+  -- ---- a first line that is refused
 
-  -- each file is told as it was, and a crash leaves no more of it
-  abbrev Spares : D → D → Type 0
-  Spares device left =
-      ((q : Name) → kind.bytes left q ≡ kind.bytes device q) × ((q : Name) (e : FileContent) → kind.may_leave left q e → kind.may_leave device q e)
+  -- the line opens nothing, its files are spared, and failures are counted as it says
+  abbrev Refuses : D → D → Text → Refusal → Type 0
+  Refuses device left first e = RefusesFirst json kind device left first e × CountsRefusal (can_fail device) (faults device) (faults left) e
+
+  -- one that is too long has no form, and the directory comes back
+  long_refused : (device : D) (line : Text) → nat_lt 10000 (length line) ≡ true → Refuses device device line NoForm
+  long_refused device line long = (
+    (
+      inr (begins_from (bytes device) line (Err NoForm) (Begins.formless (λ readable factor least text spelled. too_long line long readable))),
+      (λ q. refl),
+      λ q e h. h,
+    ),
+    formless_unasked (can_fail device) (faults device),
+  )
+
+  refused_in : (device back : D) (first : Text) (e : Refusal) (b : Bool) → nat_lt 10000 (length first) ≡ b
+      → OpensCaused bytes may_leave can_fail faults device (if b then None else Some first) (Err (record { refusal = e; seed = back }))
+      → Refuses device back first e
+  refused_in device back first e true long o =
+      subst (λ (u : Unopened D). Refuses device u.seed first u.refusal) (sym (err_same (record { refusal = e; seed = back }) (record { refusal = NoForm; seed = device }) o))
+      (long_refused device first long)
+    where
+      err_same : (a b : Unopened D) → ◌≡◌ {A = Result (Service D) (Unopened D)} (Err a) (Err b) → a ≡ b
+      err_same a b e = cc
+  refused_in device back first e false long o = (
+    (
+      elim o.0.0.0 [ inl memory ↦ inl memory | inr begins ↦ inr (begins_from (bytes device) first (Err e) begins) ],
+      (λ q. o.0.0.1 (file_of q)),
+      λ q. o.0.0.2 (file_of q),
+    ),
+    o.2,
+  )
 
   -- ---- the stage that is left
 
@@ -406,95 +416,73 @@ module _ {D : Type 0} (bytes : D → ToldFiles) (may_leave : D → FileName → 
     abbrev refused_at : List Text → Refusal → Type 0
     refused_at = RefusedAt (OpensCaused bytes may_leave can_fail faults) device stage
 
+    -- the directory is the one that was given
+    abbrev Untouched : Type 0
+    Untouched = ◌≡◌ {A = D} (device_at stage) device
+
     abbrev served : Text → List Text → Text → Type 0
     served = IsCausedIn json kind device (device_at stage)
 
     abbrev refuses : Text → Refusal → Type 0
-    refuses first e = BeginsFrom json (kind.bytes device) first (Err e)
+    refuses = Refuses device (device_at stage)
 
-    some_answer : (lines : List Text) (text : Text) → leads_to lines text → Answered served lines text
-    some_answer [] text so = so.1
+    some_answer : (lines : List Text) (text : Text) → leads_to lines text → Answered Untouched served lines text
+    some_answer [] text so = (ap device_at so.0, so.1)
     some_answer (first ∷ lines) text so =
         subst (λ d. IsCausedIn json kind device d first lines text) (sym (ap device_at so.1))
         (answered_in device first lines text so.0 (subst (StageLasts bytes may_leave) so.1 lasts) (subst (StageOutlives bytes may_leave) so.1 laws))
 
-    some_refusal : (lines : List Text) (e : Refusal) → refused_at lines e → Refused refuses lines e
-    some_refusal [] e so = so.1
-    some_refusal (first ∷ lines) e so = refused_in device first e (so.0, so.1)
+    some_refusal : (lines : List Text) (e : Refusal) → refused_at lines e → Refused Untouched refuses lines e
+    some_refusal [] e so = (ap device_at so.0, so.1)
+    some_refusal (first ∷ lines) e so =
+        subst (λ (x : Stage (Service D) D). Refuses device (device_at x) first e) (sym so.2)
+        (refused_in device so.0 first e (nat_lt 10000 (length first)) refl so.1)
 
     some_due : (lines : List Text) (text : Text)
         → ((first others : List Text) × (first ++ others ≡ lines) × leads_to first text)
         ⊎ ((e : Refusal) × refused_at lines e × (text ≡ refused_text e))
-        → IsDue served refuses lines text
+        → IsDue (Answered Untouched served) (Refused Untouched refuses) lines text
     some_due lines text (inl so) = inl (so.0, so.1, so.2, some_answer so.0 text so.3)
     some_due lines text (inr so) = inr (so.0, some_refusal lines so.0 so.1, so.2)
 
     -- What is served by a world's machine is served as is promised, and each reply has its cause.
-    pub caused_in : (input left before after : Option Text) (r : Result (Unit {0}) Ending) → EndsBy leads_to refused_at input left before after r
+    pub caused_in : (input left before after : Option Text) (r : Result (Unit {0}) Ending) → ServesBy leads_to refused_at input left before after r
         → CausesIn json kind device (device_at stage) input left before after r
     caused_in input left before after (Ok u) so = (so.0, so.1, so.2, so.3, some_answer (lines_of so.0) so.3 so.4, so.5)
     caused_in input left before after (Err Ending.schema) so = (so.0, so.1, so.2, so.3, so.4, some_refusal so.2 so.4 so.5, so.6)
     caused_in input left before after (Err Ending.read) so = (so.0, so.1, so.2, some_answer (ended_lines so.0) so.2 so.3, so.4)
     caused_in input left before after (Err Ending.write) so = (so.0, so.1, so.2, so.3, so.4, some_due so.2 so.4 so.5, so.6)
 
-    abbrev plain : Text → List Text → Text → Type 0
-    plain = IsServedIn json kind device (device_at stage)
+  -- ---- what follows
 
-    answer_less : (lines : List Text) (text : Text) → Answered served lines text → Answered plain lines text
+  module _ (device left : D) where
+    abbrev causes : Text → List Text → Text → Type 0
+    causes = IsCausedIn json kind device left
+
+    abbrev plain : Text → List Text → Text → Type 0
+    plain = IsServedIn json kind device left
+
+    -- the directory is the one that was given
+    abbrev Same : Type 0
+    Same = ◌≡◌ {A = D} left device
+
+    answer_less : (lines : List Text) (text : Text) → Answered Same causes lines text → Answered Same plain lines text
     answer_less [] text so = so
     answer_less (first ∷ lines) text so = so.served
 
-    due_less : (lines : List Text) (text : Text) → IsDue served refuses lines text → IsDue plain refuses lines text
+    refusal_less : (lines : List Text) (e : Refusal) → Refused Same (Refuses device left) lines e → Refused Same (RefusesFirst json kind device left) lines e
+    refusal_less [] e so = so
+    refusal_less (first ∷ lines) e so = so.0
+
+    due_less : (lines : List Text) (text : Text) → IsDue (Answered Same causes) (Refused Same (Refuses device left)) lines text
+        → IsDue (Answered Same plain) (Refused Same (RefusesFirst json kind device left)) lines text
     due_less lines text (inl so) = inl (so.0, so.1, so.2, answer_less so.0 text so.3)
-    due_less lines text (inr so) = inr so
+    due_less lines text (inr so) = inr (so.0, refusal_less lines so.0 so.1, so.2)
 
     -- It is so without the causes.
-    pub served_in : (input left before after : Option Text) (r : Result (Unit {0}) Ending)
-        → CausesIn json kind device (device_at stage) input left before after r
-        → ServesIn json kind device (device_at stage) input left before after r
-    served_in input left before after (Ok u) so = (so.0, so.1, so.2, so.3, answer_less (lines_of so.0) so.3 so.4, so.5)
-    served_in input left before after (Err Ending.schema) so = so
-    served_in input left before after (Err Ending.read) so = (so.0, so.1, so.2, answer_less (ended_lines so.0) so.2 so.3, so.4)
-    served_in input left before after (Err Ending.write) so = (so.0, so.1, so.2, so.3, so.4, due_less so.2 so.4 so.5, so.6)
-
-    -- what opening gave back has its files as they were
-    given_back : (first : Text) (u : Unopened D) (b : Bool) → OpensCaused bytes may_leave can_fail faults device (if b then None else Some first) (Err u)
-        → Spares device u.seed
-    given_back first u true o =
-        let same : u ≡ record { refusal = NoForm; seed = device } = err_same u (record { refusal = NoForm; seed = device }) o in
-        subst (λ (x : Unopened D). Spares device x.seed) (sym same) ((λ q. refl), λ q e h. h)
-      where
-        err_same : (a b : Unopened D) → ◌≡◌ {A = Result (Service D) (Unopened D)} (Err a) (Err b) → a ≡ b
-        err_same a b e = cc
-    given_back first u false o = (λ q. o.0.0.1 (file_of q), λ q. o.0.0.2 (file_of q))
-
-    spared_at : (lines : List Text) (e : Refusal) → refused_at lines e
-        → Spares device (device_at stage)
-    spared_at [] e so =
-        subst (λ (x : Stage (Service D) D). Spares device (device_at x)) (sym so.0)
-        ((λ q. refl), λ q e h. h)
-    spared_at (first ∷ lines) e so =
-        subst (λ (x : Stage (Service D) D). Spares device (device_at x)) (sym so.2)
-        (given_back first (record { refusal = e; seed = so.0 }) (nat_lt 10000 (length first)) so.1)
-
-    -- where no line came the seed waits as it was
-    unread : (lines : List Text) (text : Text) → leads_to lines text → lines ≡ [] → ◌≡◌ {A = D} (device_at stage) device
-    unread [] text so e = ap device_at so.0
-    unread (first ∷ lines) text so e = absurd (let no : ◌≡◌ {A = List Text} (first ∷ lines) [] = e in cc)
-
-    uncome : (text : Text) (lines : List Text)
-        → ((first others : List Text) × (first ++ others ≡ lines) × leads_to first text) ⊎ ((e : Refusal) × refused_at lines e × (text ≡ refused_text e))
-        → lines ≡ [] → ◌≡◌ {A = D} (device_at stage) device
-    uncome text lines (inl ([], others, whole, so)) e = unread [] text so refl
-    uncome text lines (inl (first ∷ more, others, whole, so)) e =
-        absurd (let no : ◌≡◌ {A = List Text} (first ∷ (more ++ others)) [] = whole ∙ e in cc)
-    uncome text [] (inr so) e = ap device_at so.1.0
-    uncome text (first ∷ lines) (inr so) e = absurd (let no : ◌≡◌ {A = List Text} (first ∷ lines) [] = e in cc)
-
-    -- and where the schema line is refused the files are as they were, and where no line came the directory
-    pub spared_in : (input left before after : Option Text) (r : Result (Unit {0}) Ending) → EndsBy leads_to refused_at input left before after r
-        → SparesUnserved kind device (device_at stage) input left r
-    spared_in input left before after (Ok u) so = tt
-    spared_in input left before after (Err Ending.schema) so = spared_at so.2 so.4 so.5
-    spared_in input left before after (Err Ending.read) so = (so.0, so.1, unread (ended_lines so.0) so.2 so.3)
-    spared_in input left before after (Err Ending.write) so = (so.0, so.1, so.2, so.3, uncome so.4 so.2 so.5)
+    pub served_in : (input rest before after : Option Text) (r : Result (Unit {0}) Ending) → CausesIn json kind device left input rest before after r
+        → ServesIn json kind device left input rest before after r
+    served_in input rest before after (Ok u) so = (so.0, so.1, so.2, so.3, answer_less (lines_of so.0) so.3 so.4, so.5)
+    served_in input rest before after (Err Ending.schema) so = (so.0, so.1, so.2, so.3, so.4, refusal_less so.2 so.4 so.5, so.6)
+    served_in input rest before after (Err Ending.read) so = (so.0, so.1, so.2, answer_less (ended_lines so.0) so.2 so.3, so.4)
+    served_in input rest before after (Err Ending.write) so = (so.0, so.1, so.2, so.3, so.4, due_less so.2 so.4 so.5, so.6)

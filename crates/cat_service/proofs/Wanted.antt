@@ -194,11 +194,14 @@ module _ (told : ToldFiles) (s : Shape) (session : ℕ) (result : Result code.An
       due_to (Command.text_of_commit g) (ok_shaped told s session (Command.text_of_commit g) (λ l e. note_ok s l e session g kept.0 kept.1)) c is
 
   pub commit_wants : {B : Type 0} (A : Type 0) (text : Text) → IfErr (commit_text_of text) (λ e. (result ≡ Err e) × A)
-      → (commit_text_of text ≡ Ok text → last_number < s.next_generation → (result ≡ Err Spent) × B) → SaysMayWant told s session (Said.commit text)
-  commit_wants A text wrong none c is =
+      → (commit_text_of text ≡ Ok text → last_number < s.next_generation → (result ≡ Err Spent) × B)
+      → IfErr result (λ e. (e ≡ Memory) ⊎ (e ≡ Device) → MayNotFlush s → ⊥) → SaysMayWant told s session (Said.commit text)
+  commit_wants A text wrong none due c is =
       let right : commit_text_of text ≡ Ok text = by (ltb commit_text_limit (length text)) (list_all is_plain_byte text) refl refl wrong in
-      let left : s.next_generation ≤ last_number = no_more s.next_generation last_number (λ more. not_given Spent (λ is. cc is) (none right more).0) in
-      due_to (Command.commit (Ok text)) (commit_ok told s session text left) c (is ∙ ap (λ (i : Result Text Refusal). Command.commit i) right)
+      let left : s.next_generation ≤ last_number = no_more s.next_generation last_number (λ more. not_given Spent (λ is. cc is) (none right more).0) in (
+        due_to (Command.commit (Ok text)) (commit_ok told s session text left) c (is ∙ ap (λ (i : Result Text Refusal). Command.commit i) right),
+        of_memory (λ e. (e ≡ Memory) ⊎ (e ≡ Device) → MayNotFlush s → ⊥) due (inl refl),
+      )
     where
       by : (long plain : Bool) → ltb commit_text_limit (length text) ≡ long → list_all is_plain_byte text ≡ plain
           → IfErr (cond long (Err Large) (cond plain (Ok text) (Err WrongKind))) (λ e. (result ≡ Err e) × A) → commit_text_of text ≡ Ok text
@@ -376,7 +379,7 @@ module _ (told : ToldFiles) (s : Shape) (session : ℕ) where
   wants_rightly (Some (Said.get t text)) c is may = fits (Command.read t (Read.get (id_of text))) c is may (λ ok. ok)
   wants_rightly (Some (Said.files_of_token t)) c is may = fits (Command.files_of_token t) c is may (λ ok. ok)
   wants_rightly (Some (Said.files_of_commit g)) c is may = fits (Command.files_of_commit g) c is may (λ ok. ok)
-  wants_rightly (Some (Said.commit text)) c is may = fits (Command.commit (commit_text_of text)) c is may (λ ok. ok)
+  wants_rightly (Some (Said.commit text)) c is may = fits (Command.commit (commit_text_of text)) c is may.0 (λ ok. ok)
   wants_rightly (Some (Said.text_of_commit g)) c is may = fits (Command.text_of_commit g) c is may (λ ok. ok)
   wants_rightly (Some Said.snapshot) c is may = fits Command.snapshot c is may (λ ok. ok)
   wants_rightly (Some (Said.release_snapshot g)) c is may = fits (Command.release_snapshot g) c is may (λ ok. ok)

@@ -8,11 +8,11 @@ use Rattle.cat_model.specs.Run.{Answer, Chore, News, Reply}
 use Rattle.cat_model.specs.Text.{Text}
 use Rattle.cat_model.specs.View.{View}
 use Rattle.cat_directory.specs.Devices.{CountsOne}
-use Rattle.cat_commands.specs.ledger.Chores.{IsWarmTold, pending_in, stat_in}
+use Rattle.cat_commands.specs.ledger.Chores.{IsSwept, IsWarmTold, pending_in, stat_in}
 use Rattle.cat_commands.specs.cat_cached_sets.filters.Filters.{Filters}
 use Rattle.cat_commands.specs.cat_ledger.Ledgers.{LedgerOnDevice}
 use Rattle.cat_commands.specs.cat_ledger.Refusals.{KeepsMerge, KeepsSegments}
-use Rattle.cat_commands.specs.cat_ledger_state.Cores.{HasRowsLeft, MayCopy, MayNotFlush}
+use Rattle.cat_commands.specs.cat_ledger_state.Cores.{HasRowsLeft, LacksInput, LacksToCopy, MayCopy, MayNotFlush}
 use Rattle.cat_ledger_laws.specs.lines.PlanLaws.{TellsForce, TellsMerge}
 use Rattle.cat_ledger_laws.specs.lines.ReadLaws.{IsRecordedAs}
 use Rattle.cat_ledger_laws.specs.lines.StayLaws.{IsOneMoreAtMost}
@@ -37,13 +37,13 @@ IsSpentTo policy s (Some (Said.chore Chore.merge)) = IsMergeDue policy s × (las
 IsSpentTo policy s (Some (Said.chore Chore.force)) = IsForceDue s × (last_number < s.next_segment)
 IsSpentTo policy s said = Unit {0}
 
--- The device can fail; or a MERGE is to copy rows, and their file may be gone. No run has another line with that refusal.
+-- The device can fail. No run has another line with that refusal.
 abbrev pub MayFailTo : {D : Type 0} → (D → Type 0) → D → Shape → Option Said → Type 0
 MayFailTo can_fail device s (Some (Said.put text)) = can_fail device
 MayFailTo can_fail device s (Some Said.refresh) = can_fail device
 MayFailTo can_fail device s (Some (Said.get t id)) = can_fail device
 MayFailTo can_fail device s (Some (Said.commit text)) = can_fail device
-MayFailTo can_fail device s (Some (Said.chore Chore.merge)) = HasRowsLeft s.merging ⊎ can_fail device
+MayFailTo can_fail device s (Some (Said.chore Chore.merge)) = can_fail device
 MayFailTo can_fail device s (Some (Said.chore Chore.force)) = can_fail device
 MayFailTo can_fail device s (Some (Said.chore Chore.sweep)) = can_fail device
 MayFailTo can_fail device s said = Unit {0}
@@ -59,12 +59,13 @@ IsCountedTo counted (Some (Said.chore Chore.force)) = counted
 IsCountedTo counted (Some (Said.chore Chore.sweep)) = counted
 IsCountedTo counted said = Unit {0}
 
--- To a GET: the files that the device tells of don't hold the text that the view has of the item. To a MERGE: it is to copy rows. No run has
--- another line with that refusal.
+-- To a GET: the files that the device tells of don't hold the text that the view has of the item. To a MERGE: it is to copy rows, one of the
+-- sources isn't in the file of its segment, and the file of a segment that it takes lacks bytes, where these are told. No run has another line
+-- with that refusal.
 abbrev pub IsDamagedTo : ToldFiles → Shape → Option Said → Type 0
 IsDamagedTo told s (Some (Said.get t id)) =
     (view : View) → IsRecordedAs s.views t view → (files : ℕ → Text) → TellsSource told files view id → HoldsSource files view id → ⊥
-IsDamagedTo told s (Some (Said.chore Chore.merge)) = HasRowsLeft s.merging
+IsDamagedTo told s (Some (Said.chore Chore.merge)) = HasRowsLeft s.merging × LacksToCopy told s.merging × LacksInput told s.merging
 IsDamagedTo told s said = Unit {0}
 
 -- To a GET, that memory was wanting: the device doesn't tell that the file with the source of the item's live row is absent, nor that it ends
@@ -88,6 +89,11 @@ TellsSo policy s sets left (Some (Said.chore Chore.sweep)) (Ok (Answer.news n)) 
 TellsSo policy s sets left (Some (Said.chore Chore.stat)) (Ok (Answer.news n)) = n ≡ News.state (stat_in (length sets.cached) s)
 TellsSo policy s sets left said reply = Unit {0}
 
+-- behind a SWEEP that is answered nothing waits to be deleted, and what did is gone
+abbrev pub SweepsSo : {D : Type 0} → (D → ToldFiles) → LedgerOnDevice D → LedgerOnDevice D → Option Said → Reply → Type 0
+SweepsSo bytes old new (Some (Said.chore Chore.sweep)) (Ok a) = IsSwept bytes old new
+SweepsSo bytes old new said reply = Unit {0}
+
 -- ---- of a world
 
 -- a COMMIT whose text no commit may have changes nothing
@@ -106,8 +112,10 @@ KeepsIfRefused (Some (Said.chore Chore.force)) (Err e) s new = KeepsMerge s new 
 KeepsIfRefused said reply s new = Unit {0}
 
 -- The reply has its cause in the world: 16 where a number or a limit is spent, 30 where the device can fail and its count of failures rose, 31
--- where a file is damaged, 40 to a GET and to a MERGE where none is gone or short that they read, and the news as they are. No failure is forgotten, whatever is told; a COMMIT that is refused for its text changes
--- nothing; and what another refused line keeps is kept. The first three arguments say what a device tells of its files, whether it can fail, and how many failures it has counted.
+-- where a file is damaged, 40 where no failure was counted, and to a GET and to a MERGE where no file is gone or short that they read, and the
+-- news as they are. Behind a SWEEP with an OK what waited is gone. No failure is forgotten, whatever is told; a COMMIT that is refused for its
+-- text changes nothing; and what another refused line keeps is kept. The first three arguments say what a device tells of its files, whether
+-- it can fail, and how many failures it has counted.
 pub record HasCause {D : Type 0} (bytes : D → ToldFiles) (can_fail : D → Type 0) (faults : D → ℕ) (old : Service D) (said : Option Said)
     (reply : Reply) (new : Service D) : Type 0 where
   pub spent : reply ≡ Err Spent → IsSpentTo (policy_of old) (shape_of_service old) said
@@ -115,7 +123,9 @@ pub record HasCause {D : Type 0} (bytes : D → ToldFiles) (can_fail : D → Typ
   pub counted : reply ≡ Err Device → IsCountedTo (CountsOne (faults (device_of old)) (faults (device_of new))) said
   pub damaged : reply ≡ Err Damaged → IsDamagedTo (bytes (device_of old)) (shape_of_service old) said
   pub reached : reply ≡ Err Memory → MayReachTo (bytes (device_of old)) (shape_of_service old) said
+  pub quiet : reply ≡ Err Memory → faults (device_of new) ≡ faults (device_of old)
   pub told : TellsSo (policy_of old) (shape_of_service old) old.sets new.sets said reply
+  pub swept : SweepsSo bytes old.ledger new.ledger said reply
   pub rises : faults (device_of old) ≤ faults (device_of new)
   pub stays : StaysIfWrong said old.ledger new.ledger
   pub keeps : KeepsIfRefused said reply (shape_of_service old) (shape_of_service new)

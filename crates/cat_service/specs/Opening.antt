@@ -3,8 +3,7 @@ use Rattle.std.specs.Prelude.{◌≡◌, ◌⊎◌, ℕ, Some, Result, Ok, Err, 
 use Rattle.cat_base.specs.declared.refusal.Refusal.{Refusal}
 use Rattle.cat_base.specs.declared.refusal.Refusal.TheVariants.{Damaged, Device, Kind, Memory}
 use Rattle.cat_model.specs.Item.{Record, Schema}
-use Rattle.cat_model.specs.Lines.{IsReadable}
-use Rattle.cat_model.specs.Served.{Begins, OpensEmpty, Opening, SpellsSchema}
+use Rattle.cat_model.specs.Served.{Begins, HasSchemaText, OpensEmpty, Opening}
 use Rattle.cat_model.specs.Table.{Opened}
 use Rattle.cat_model.specs.Text.{Text}
 use Rattle.cat_items.specs.Reading.{json}
@@ -52,10 +51,6 @@ abbrev pub OpensIn : ToldFiles → Opening
 OpensIn told schema (Ok from) = BeginsAtCommit told schema from ⊎ (HasNoCommit told × OpensEmpty schema (Ok from))
 OpensIn told schema (Err e) =
     (e ≡ Memory) ⊎ (e ≡ Device) ⊎ ((e ≡ Damaged) × IsNewestDamaged told schema) ⊎ ((e ≡ Kind) × IsNewestForeign told schema)
-
--- the line can be read, and has the form of a schema line: the text of its schema is looked at, which takes memory
-abbrev pub HasSchemaText : Text → Type 0
-HasSchemaText line = IsReadable line × (factor least : ℕ) × (text : Text) × SpellsSchema line factor least text
 
 -- how a world begins that the line opens
 abbrev pub BeginsIn : ToldFiles → Text → Result Opened Refusal → Type 0

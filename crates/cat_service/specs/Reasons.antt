@@ -1,5 +1,5 @@
 -- Why each line was told what it was told, as a world is served.
-use Rattle.std.specs.Prelude.{◌≡◌, ℕ, List, option_map, Option, None, Some, Result, length, IfOk}
+use Rattle.std.specs.Prelude.{◌≡◌, ℕ, List, option_map, Option, None, Some, Result, length, IfErr, IfOk}
 use Rattle.cat_model.specs.Lines.{Said}
 use Rattle.cat_model.specs.Merged.{rows_of_all}
 use Rattle.cat_model.specs.Served.{Outcome, SpellsSchema}
@@ -16,6 +16,7 @@ use Rattle.cat_service.specs.Causes.{HasCause, TakesNumbers}
 use Rattle.cat_service.specs.Lines.{IsCommandOf}
 use Rattle.cat_service.specs.Serving.{OpensIfShort, StepsIfShort}
 use Rattle.cat_model.specs.Standings.{Progress, Standing}
+use Rattle.cat_model.specs.Reasons.{CountsRefusal}
 use Rattle.cat_service.specs.Worlds.{Service, device_of, policy_of, shape_of_service}
 
 -- ---- of a world
@@ -43,12 +44,13 @@ OpensSo bytes can_fail faults device line w =
     × CountsSwept (can_fail device) (faults device) (shape_of_service w) (faults (device_of w))
     × (text : Text) × SpellsSchema line (policy_of w).factor (policy_of w).least text
 
--- what opening by a first line may give, which may be too long, with how it begins
+-- what opening by a first line may give, which may be too long, with how it begins, or which failures a refusal counted
 abbrev pub OpensCaused : {D : Type 0} → (D → ToldFiles) → (D → FileName → FileContent → Type 0) → (D → Type 0) → (D → ℕ) → D → Option Text
     → Result (Service D) (Unopened D) → Type 0
 OpensCaused bytes may_leave can_fail faults device None r = OpensIfShort bytes may_leave can_fail device None r
 OpensCaused bytes may_leave can_fail faults device (Some line) r =
     OpensIfShort bytes may_leave can_fail device (Some line) r × IfOk r (λ w. OpensSo bytes can_fail faults device line w)
+    × IfErr r (λ u. CountsRefusal (can_fail device) (faults device) (faults u.seed) u.refusal)
 
 -- What a line said, which is its command, has its cause in the world before it; and the command was answered.
 abbrev pub IsCausedBy : {D : Type 0} → (D → ToldFiles) → (D → Type 0) → (D → ℕ) → Service D → Outcome → Service D → Type 0

@@ -32,12 +32,13 @@ OpensIfShort bytes may_leave can_fail device (Some line) r =
     OpensWorld bytes may_leave device line r × IfOk r (λ w. AlwaysTells bytes → LeavesNoneAhead may_leave w.ledger)
     × IfOk r (λ w. can_fail (device_of w) → can_fail device)
 
--- Where the command is told that the device failed, the device can fail. A MERGE may be told so at any time; no run tells another command so.
+-- Where the command is told that the device failed, the device can fail. No run tells another command so.
 abbrev pub MayFailBy : Type 0 → Command → Type 0
 MayFailBy fails (Command.put item) = fails
 MayFailBy fails Command.refresh = fails
 MayFailBy fails (Command.read t (Read.get id)) = fails
 MayFailBy fails (Command.commit text) = fails
+MayFailBy fails (Command.chore Chore.merge) = fails
 MayFailBy fails (Command.chore Chore.force) = fails
 MayFailBy fails (Command.chore Chore.sweep) = fails
 MayFailBy fails c = Unit {0}

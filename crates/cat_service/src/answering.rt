@@ -53,21 +53,24 @@ impl<D: Directory + Shelf> World<D> {
     }
 
     /// Answers a line. Whatever run led here, the reply fits it, and what is left stands for the longer run; where the
-    /// directory doesn't tell of its files, the text of a stored item alone may be another of that length. The files stand of
-    /// each token that is recorded or held and of each commit that is kept, and a crash leaves those of the newest commit.
-    /// [`Refusal::Memory`] is told only where an OK fits, so that it hides no other refusal; to a GET and to a MERGE only where
-    /// no file with a text that they are to read is told to be gone or too short; and never of a CLOSE or of a line without a
-    /// form, nor of an OPEN of a token that the session holds. Of a PUT that is known as far as its length and its UTF-8, and
-    /// of a DELW as far as its query. A refusal that stands in place of an OK has its cause: [`Refusal::Spent`] that
-    /// a number or a limit is spent, [`Refusal::Device`] that the directory can fail and counted one failure more,
-    /// [`Refusal::Damaged`] that a file is damaged; but a MERGE that copies rows may be told these two also where a file is
-    /// gone. No line has the directory forget a failure, and a COMMIT that is refused for its text changes nothing. Behind a
-    /// PUT, REFRESH, COMMIT or FORCE that is refused a merge in the making goes on, behind a MERGE or FORCE the same segments
-    /// stand and what waited still waits, and behind none of these a file is forgotten that a SWEEP is to delete. COMMIT tells
-    /// the generation that comes next, and maintenance what is so: WARM the step that it took, STAT how many sets are cached. A
-    /// FIND and a FACETS use the cached sets of their query and, where they are answered, note it; beside these, WARM and MERGE
-    /// alone change the sets. A line takes one number of a segment and one generation at most. What the line makes of commits
-    /// is known by its reply, from which [`histories_last`](World::histories_last) tells what a crash leaves.
+    /// directory doesn't tell of its files, the text of a stored item alone may be another of that length. The files stand
+    /// of each token that is recorded or held and of each commit that is kept, and a crash leaves those of the newest
+    /// commit. [`Refusal::Memory`] is told only where an OK fits and the directory counted no failure, so that it hides no
+    /// other refusal, nor a failure of the directory; to a GET and to a MERGE only where no file with a text that they are
+    /// to read is told to be gone or too short; and never of a CLOSE or of a line without a form, nor of an OPEN of a token
+    /// that the session holds. That an OK fits is known of a PUT as far as its length and its UTF-8, and of a DELW as far
+    /// as its query. A refusal that stands in place of an OK has its cause: [`Refusal::Spent`] that a number or a limit is
+    /// spent, [`Refusal::Device`] that the directory can fail and counted one failure more, [`Refusal::Damaged`] that a
+    /// file is damaged: to a MERGE only where it copies rows and the file with the sources of a segment that it takes lacks
+    /// bytes, where the directory tells of it. No line has the directory forget a failure, and a COMMIT that is refused for
+    /// its text changes nothing. Behind a PUT, REFRESH, COMMIT or FORCE that is refused a merge in the making goes on,
+    /// behind a MERGE or FORCE the same segments stand and what waited still waits, and behind none of these a file is
+    /// forgotten that a SWEEP is to delete. COMMIT tells the generation that comes next, and maintenance what is so: WARM
+    /// the step that it took, STAT how many sets are cached, SWEEP how many files waited, none of which waits behind its
+    /// OK: each is gone, where the directory tells of it. A FIND and a FACETS use the cached sets of their query and, where
+    /// they are answered, note it; beside these, WARM and MERGE alone change the sets. A line takes one number of a segment
+    /// and one generation at most. What the line makes of commits is known by its reply, from which
+    /// [`histories_last`](World::histories_last) tells what a crash leaves.
     pub fn step(&mut self, line: &Line) -> Reply
         ensures session { result.session ≡ line.now.session }
         ensures run { StepsLine D.bytes line.now.session (said_of line.now.command) self.old (reply_of result.answer) self.new }

@@ -1,13 +1,14 @@
 //! Worlds that a schema line opens in a directory.
 //!
 //! Lucene's constructor of `IndexWriter` under an `IndexWriterConfig`.
-ghost use Rattle.std.specs.Prelude.{◌≡◌, [], IfOk, None};
+ghost use Rattle.std.specs.Prelude.{◌≡◌, [], IfErr, IfOk, None};
 ghost use Rattle.cat_model.specs.Served.{SpellsSchema};
 ghost use Rattle.cat_model.specs.Text.{Text};
 ghost use Rattle.cat_commands.specs.cat_ledger.Histories.{LeavesNoneAhead};
 ghost use Rattle.cat_commands.specs.cat_ledger.Lasting.{AlwaysTells};
 ghost use Rattle.cat_service.specs.Reasons.{OpensSo};
 ghost use Rattle.cat_service.specs.Opening.{OpensWorld};
+ghost use Rattle.cat_model.specs.Reasons.{CountsRefusal};
 ghost use Rattle.cat_service.specs.Worlds.{device_of};
 
 use crate::world::World;
@@ -53,7 +54,8 @@ impl<D: Directory + Shelf> World<D> {
     /// may a crash leave more of a file than it could have left before: [`Refusal::Line`] of what isn't of that form, or is
     /// longer than a line may be; [`Refusal::Json`] or [`Refusal::Kind`] of what is no schema; then [`Refusal::Kind`] where the
     /// commit has another schema, [`Refusal::Damaged`] where its files don't hold it, [`Refusal::Device`] where the directory
-    /// fails. [`Refusal::Memory`] is told only of a line of the form.
+    /// fails, which it then can. [`Refusal::Memory`] is told only of a line of the form. The directory counts one failure more
+    /// where it is told that it failed, and none with any other refusal, so that none of them stands for a failure.
     ///
     /// A crash leaves no commit that is newer than the one that was opened, where such directories always tell of their files:
     /// so [`histories_last`](World::histories_last) speaks of what a crash leaves after the lines that come.
@@ -63,6 +65,7 @@ impl<D: Directory + Shelf> World<D> {
         ensures begins { IfOk result (λ w. OpensSo D.bytes D.can_fail D.fault_count device line.now w) }
         ensures sets { IfOk result (λ w. w.sets ≡ record { cached = []; noted = []; warming = None }) }
         ensures can { IfOk result (λ w. D.can_fail (device_of w) → D.can_fail device) }
+        ensures counted { IfErr result (λ u. CountsRefusal (D.can_fail device) (D.fault_count device) (D.fault_count u.seed) u.refusal) }
     {
         if MAX_LINE_BYTES < line.len() {
             return Err(Unopened {

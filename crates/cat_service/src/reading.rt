@@ -1,7 +1,6 @@
 //! Lines that look for items, over a session's right to a view.
 ghost use Rattle.std.specs.Prelude.{◌≡◌, Some};
 ghost use Rattle.cat_model.specs.Lines.{Said};
-ghost use Rattle.cat_commands.specs.cat_protocol.lines.Line.{sort_said};
 ghost use Rattle.cat_commands.specs.cat_search.Sorts.{sort_of};
 ghost use Rattle.cat_commands.specs.cat_protocol.replies.Reply.{reply_of};
 ghost use Rattle.cat_commands.specs.cat_ledger.Histories.{GoesBy};
@@ -9,22 +8,11 @@ ghost use Rattle.cat_service.specs.Lines.{Does};
 
 use crate::world::World;
 use cat_base::{Refusal, SessionNo};
+use cat_commands::Ask;
 use cat_commands::cat_protocol::lines::{Facets, Find};
 use cat_commands::cat_protocol::replies::Answer;
 use cat_commands::sets::segments_are_one;
-use cat_commands::{Ask, Sort};
 use cat_directory::{Directory, Shelf};
-
-/// The sort that a line says.
-fn sort_asked(sort: cat_commands::cat_protocol::lines::Sort<'_>) -> Sort<'_>
-    ensures { sort_of result ≡ sort_said sort.entry }
-{
-    match sort {
-        cat_commands::cat_protocol::lines::Sort::Added => Sort::Added,
-        cat_commands::cat_protocol::lines::Sort::Rising(name) => Sort::Rising(name),
-        cat_commands::cat_protocol::lines::Sort::Falling(name) => Sort::Falling(name),
-    }
-}
 
 impl<D: Directory + Shelf> World<D> {
     /// Answers a FIND.
@@ -34,15 +22,15 @@ impl<D: Directory + Shelf> World<D> {
         find: Find<'_>,
     ) -> Result<Answer, Refusal>
         ensures does { Does D.bytes D.can_fail D.fault_count session
-            (Some (Said.find find.entry.token find.entry.count (sort_said find.entry.sort) find.entry.mark find.entry.query.now))
+            (Some (Said.find find.entry.token find.entry.count (sort_of find.entry.sort) find.entry.mark find.entry.query.now))
             self.old (reply_of result) self.new }
         ensures history { GoesBy D.may_leave
-            (Some (Said.find find.entry.token find.entry.count (sort_said find.entry.sort) find.entry.mark find.entry.query.now))
+            (Some (Said.find find.entry.token find.entry.count (sort_of find.entry.sort) find.entry.mark find.entry.query.now))
             (reply_of result) self.old.ledger self.new.ledger }
     {
         let right = self.rights.get(session, find.token);
         let ask = Ask {
-            sort: sort_asked(find.sort),
+            sort: find.sort,
             after: find.mark,
             count: find.count,
         };

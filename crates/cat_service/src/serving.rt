@@ -1,7 +1,7 @@
 //! Lines that are served over a directory.
 ghost use Rattle.std.specs.Prelude.{◌≡◌};
+ghost use Rattle.cat_model.specs.Serving.{ServesIn};
 ghost use Rattle.cat_model.specs.Reasons.{CausesIn};
-ghost use Rattle.cat_model.specs.Serving.{ServesIn, SparesUnserved};
 ghost use Rattle.cat_items.specs.Reading.{json};
 ghost use Rattle.cat_directory.specs.Names.{by_names};
 ghost use Rattle.cat_commands.specs.cat_protocol.serving.Serving.{ended_as};
@@ -43,22 +43,26 @@ fn device_left<D: Directory + Shelf>(stage: Stage<World<D>, D>) -> D
 /// none, and the others are its sessions'.
 ///
 /// What it writes is the text of a run that fits the lines, and nothing else, and of a directory that can't fail it says to no
-/// line but a MERGE that it did; where a directory doesn't tell of its files, the text of a stored item alone may be another of
+/// line that it did; where a directory doesn't tell of its files, the text of a stored item alone may be another of
 /// that length, and has no line feed either. In the directory that is left stand, as far as it tells of its files, those of
 /// every token that the run has recorded, held ones too, and of every commit that it keeps, with the table of each. Where such
 /// directories always tell of their files, a crash leaves those of the newest commit byte for byte: the commit that was opened,
 /// or that the last COMMIT was answered. What is found after the crash is that commit, or one of a COMMIT that was refused
 /// after it, but not for its text; and once the files of these are taken away, it is that commit. Where the schema line is
-/// refused, the files are as they were, also in whatever a crash may leave; and where a read failed before any line had ended,
-/// or a write before any line had come, the directory is untouched.
+/// refused, the files are as they were, also in whatever a crash may leave, and also where the write of that refusal fails; it
+/// is told that the device failed only where the directory can fail and counted one failure more, and none is counted behind
+/// another refusal. Where a read failed before any line had ended, or a write before any was to be answered, the directory is
+/// untouched.
 ///
 /// Each reply has its cause in how the service stands before its line, from the opening on, as [`World::step`] says of one
-/// line. That a number or a limit is spent is told only where one is; that the device failed, only where the directory counts
-/// one failure more at that line, and no failure is forgotten; that a file is damaged, to a MERGE only where it has rows to
-/// copy, and to a GET, where such directories always tell of their files, only where the text has a line feed. A COMMIT tells
-/// the generation that comes next, and takes it; SWEEP, STAT, MERGE and FORCE tell what is so. A COMMIT that is refused, but
-/// not for its text, takes the generation that it tried, so that no later line is told it: where such directories always tell
-/// of their files, whatever commit a crash leaves as the newest is the last that was answered or opened, or was tried so.
+/// line. That a number or a limit is spent is told only where one is; that the device failed, only where the directory
+/// counts one failure more at that line, and that memory was wanting, only where it counts none; no failure is forgotten.
+/// That a file is damaged is told, where such directories always tell of their files, to no MERGE, and to a GET only where
+/// the text has a line feed; else to a MERGE only where it has rows to copy. A COMMIT tells the generation that comes next,
+/// and takes it; SWEEP, STAT, MERGE and FORCE tell what is so, and behind a SWEEP with an OK no file waits to be deleted. A
+/// COMMIT that is refused, but not for its text, takes the generation that it tried, so that no later line is told it:
+/// where such directories always tell of their files, whatever commit a crash leaves as the newest is the last that was
+/// answered or opened, or was tried so.
 ///
 /// It flushes before each read, so that a client which waits for a reply has it. Its two buffers are taken before the first
 /// line is read, and replies are written without taking memory. The reader is called at most 4,294,967,295 times.
@@ -74,8 +78,6 @@ pub fn serve<D: Directory + Shelf, R: Read, W: Write>(
     ensures caused { CausesIn json (by_names D.bytes D.may_leave D.can_fail D.fault_count) device result.device
         (R.remaining reader.old) (R.remaining reader.new) (W.contents writer.old) (W.contents writer.new)
         (ended_as result.ended) }
-    ensures spared { SparesUnserved (by_names D.bytes D.may_leave D.can_fail D.fault_count) device result.device
-        (R.remaining reader.old) (R.remaining reader.new) (ended_as result.ended) }
 {
     let served = serve_machine::<World<D>, R, W>(alloc, device, reader, writer);
     Left {

@@ -50,15 +50,15 @@ sound told first from (Begins.opened f l text schema r readable a is opens) = so
 
 module _ {D : Type 0} (kind : DirectoryKind D) (device left : D) where
   abbrev pub Served : List Text → Text → Type 0
-  Served lines output = AnsweredBy (IsServedIn json kind device left) lines output
+  Served lines output = AnsweredBy (◌≡◌ {A = D} left device) (IsServedIn json kind device left) lines output
 
   pub answered_is : (input output : Text) (lines : List Text) → HasAnswered json kind device left input output lines → Served lines output × AllByRecursion IsOneLine lines
   answered_is input output _ (HasAnswered.to_the_end s) =
       let same : input ≡ s.0 = s.1 ∙ append-nil s.0 in
-      (subst (λ b. AnsweredBy (IsServedIn json kind device left) (lines_of b) output) (sym same) (subst (AnsweredBy (IsServedIn json kind device left) (lines_of s.0)) (sym s.5) s.4), lines_are_lines input)
+      (subst (λ b. AnsweredBy (◌≡◌ {A = D} left device) (IsServedIn json kind device left) (lines_of b) output) (sym same) (subst (AnsweredBy (◌≡◌ {A = D} left device) (IsServedIn json kind device left) (lines_of s.0)) (sym s.5) s.4), lines_are_lines input)
   answered_is input output _ (HasAnswered.to_a_fault rest s) =
       let same : input ≡ s.0 = append_cancel_right input s.0 rest s.1 in
-      (subst (λ b. AnsweredBy (IsServedIn json kind device left) (ended_lines b) output) (sym same) (subst (AnsweredBy (IsServedIn json kind device left) (ended_lines s.0)) (sym s.4) s.3), ended_are_lines input)
+      (subst (λ b. AnsweredBy (◌≡◌ {A = D} left device) (IsServedIn json kind device left) (ended_lines b) output) (sym same) (subst (AnsweredBy (◌≡◌ {A = D} left device) (IsServedIn json kind device left) (ended_lines s.0)) (sym s.4) s.3), ended_are_lines input)
 
   pub served_first : (input output first : Text) (lines : List Text) → HasAnswered json kind device left input output (first ∷ lines) → IsServedIn json kind device left first lines output
   served_first input output first lines a = (answered_is input output (first ∷ lines) a).0

@@ -1,8 +1,8 @@
 -- What a crash leaves of the newest commit is found with the run's table.
-use Rattle.std.proofs.Common.{inl, inr, ◌≡◌, ◌≢◌, ℕ, ◌+◌, ◌≤◌, List, [], ◌∷◌, ◌++◌, length, Bool, true, false, cond, refl, sym, ◌∙◌, ap, ap₂, subst, arith, append-nil}
+use Rattle.std.proofs.Common.{inl, inr, ◌⊎◌, ◌≡◌, ◌≢◌, ℕ, ◌+◌, ◌<◌, ◌≤◌, leb, List, [], ◌∷◌, ◌++◌, length, Bool, true, false, cond, refl, sym, ◌∙◌, ap, ap₂, subst, arith, append-nil}
 use Rattle.std.specs.Prelude.{◌==◌, ◌&&◌, filter, Option, None, Some, Result, Ok, Err, Contains, count_by, filter_map, replicate}
 use Rattle.std.specs.List.{flat_map, AllByRecursion}
-use Rattle.std.proofs.lemmas.Bool.Decides.{leb_tells}
+use Rattle.std.proofs.lemmas.Bool.Decides.{eqb_tells, leb_tells}
 use Rattle.std.proofs.lemmas.List.Elements.{Contains-append_right}
 use Rattle.std.proofs.lemmas.List.Sums.{sum_by-cons}
 use Rattle.cat_base.specs.declared.refusal.Refusal.{Refusal}
@@ -22,7 +22,7 @@ use Rattle.cat_model.specs.Restored.{AreLeavesOf, HasCommit, HasLiveFile, IsLeaf
 use Rattle.cat_model.specs.Opens.{BeginsAtNewest, BeginsFrom, HoldsCommit, MayHaveSources, OpensFrom}
 use Rattle.cat_model.specs.Promised.{HoldsGeneration, SurvivesCrash, refuses_commit}
 use Rattle.cat_model.specs.Serving.{IsServedIn}
-use Rattle.cat_model.specs.Found.{CallsAreFound, FindsAfterwards, FindsNewest, ReadsAgreeAfterwards, RefusedSince, TellsJust}
+use Rattle.cat_model.specs.Found.{CallsAreFound, FindsAfterwards, FindsNewest, FindsRefused, ReadsAgreeAfterwards, RefusedSince, TellsJust}
 use Rattle.cat_model.proofs.UpTo.{table-more}
 use Rattle.cat_model.proofs.CommitFiles.{commits_are_told_by_their_bytes}
 use Rattle.cat_items.specs.Laws.{HaveOneSchema}
@@ -249,6 +249,59 @@ refused_since may from run s g c =
           (subst (AllByRecursion (λ x. commit_by x.line.command x.reply ≡ None)) one.split s.none);
     }
 
+-- ---- a commit above the newest
+
+-- the files without those of commits past g
+abbrev without_later : ℕ → (Name → FileContent) → Name → FileContent
+without_later g image (Name.commit h) = cond (leb h g) (image (Name.commit h)) None
+without_later g image q = image q
+
+own_stays : (g : ℕ) (image : Name → FileContent) → without_later g image (Name.commit g) ≡ image (Name.commit g)
+own_stays g image = elim (leb_tells g g) [
+  | inl e ↦ ap (λ b. cond b (image (Name.commit g)) None) e.0
+  | inr e ↦ absurd (omega (arith, e.1))
+]
+
+later_go : (g : ℕ) (image : Name → FileContent) (h : ℕ) → g < h → without_later g image (Name.commit h) ≡ None
+later_go g image h past = elim (leb_tells h g) [
+  | inl e ↦ absurd (omega (arith, past, e.1))
+  | inr e ↦ ap (λ b. cond b (image (Name.commit h)) None) e.0
+]
+
+some_content : (c : FileContent) → (◌≡◌ {A = Option FileContent} (Some c) (Some None) → ⊥) → (bytes : Text) × (c ≡ Some bytes)
+some_content None there = absurd (there refl)
+some_content (Some bytes) there = (bytes, refl)
+
+-- The newest commit that is found is the run's newest; or it is above that, if there is one, and was tried.
+newest_or_above : (may : LeftByName) (from : Opened) (run : Run) (s : SurvivesCrash may from run) (image : Name → FileContent) → MayBeLeft may image
+    → (n : ℕ) → IsNewestTold (told_of image) n
+    → (newest_commit from run ≡ Some n) ⊎ (((g : ℕ) → newest_commit from run ≡ Some g → g < n) × Contains s.tried n)
+newest_or_above may from run s image left n newest =
+    elim (s.found image n left newest) [ inl is ↦ inl is | inr tried ↦ by (newest_commit from run) refl tried ]
+  where
+    most : (g : ℕ) → newest_commit from run ≡ Some g → g ≤ n
+    most g is =
+        let mended = s.mended g is image (without_later g image) left (own_stays g image) (later_go g image) in
+        let here = some_content (image (Name.commit g)) (λ none. mended.there (ap (λ c. Some c) (own_stays g image) ∙ none)) in
+        newest.greatest g here.0 (ap (λ c. Some c) here.1)
+
+    by : (o : Option ℕ) → newest_commit from run ≡ o → Contains s.tried n
+        → (newest_commit from run ≡ Some n) ⊎ (((g : ℕ) → newest_commit from run ≡ Some g → g < n) × Contains s.tried n)
+    by None is tried = inr (λ g other. absurd (let no : ◌≡◌ {A = Option ℕ} None (Some g) = sym is ∙ other in cc no), tried)
+    by (Some k) is tried = elim (eqb_tells k n) [
+      | inl e ↦ inl (is ∙ ap (λ m. Some m) e.1)
+      | inr e ↦ inr (λ g other. let same : k ≡ g = (let one : ◌≡◌ {A = Option ℕ} (Some k) (Some g) = sym is ∙ other in cc one) in let low = most g other in omega (arith, same, low, e.1), tried)
+    ]
+
+finds_refused : (told₂ : ToldByName) (from : Opened) (run : Run) (schema : Schema) (found : Opened) (b : BeginsAtNewest told₂ schema found)
+    → ((g : ℕ) → newest_commit from run ≡ Some g → g < b.generation) → RefusedSince run → FindsRefused from run found
+finds_refused told₂ from run schema found b above since = record {
+  commit = record { generation = b.commit.generation; text = b.commit.text };
+  there = b.text;
+  above = λ g is. let low = above g is in let number : b.commit.generation ≡ b.generation = b.held.held.commit.number in omega (arith, low, number);
+  since = since;
+}
+
 -- ---- the law
 
 same_told : (told : ToldByName) (image : Name → FileContent) → TellsJust told image → told ≡ told_of image
@@ -265,11 +318,12 @@ module _ {D : Type 0} (kind : DirectoryKind D) (device left : D) (segments : Seg
 
   found_at : (schema : Schema) (found : Opened) → OpensFrom told₂ schema (Ok found) → FindsAfterwards s.from run found
   found_at schema found (inl b) =
-      elim (lasts.found image b.generation crashed (subst (λ t. IsNewestTold t b.generation) (same_told told₂ image just) b.newest)) [
+      let first_told : IsNewestTold (told_of image) b.generation = subst (λ t. IsNewestTold t b.generation) (same_told told₂ image just) b.newest in
+      elim (newest_or_above (kind.may_leave left) s.from run lasts image crashed b.generation first_told) [
         | inl newest ↦
             let here = s.promised.outlasts always b.generation newest in
             FindsAfterwards.newest (finds_newest segments lives (kind.bytes left) told₂ (always left) (kind.may_leave left) image crashed just s.from run b.generation here.0 here.1 schema found b refl newest)
-        | inr tried ↦ FindsAfterwards.refused (refused_since (kind.may_leave left) s.from run lasts b.generation tried)
+        | inr later ↦ FindsAfterwards.refused (finds_refused told₂ s.from run schema found b later.0 (refused_since (kind.may_leave left) s.from run lasts b.generation later.1))
       ]
   found_at schema found (inr e) =
       FindsAfterwards.none (record {

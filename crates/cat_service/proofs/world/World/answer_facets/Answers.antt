@@ -47,7 +47,7 @@ returns-clause-does g c = rw (← c.self.view_is) (
     let ledger = c.self.inside.ledger in
     let o = option_map (λ h. h.now.view) c.get-right.result in
     does g.D.Holder.bytes g.D.Holder.can_fail g.D.Holder.fault_count c.args.session (Said.facets facets.token facets.dimension.now facets.count facets.query.now)
-    ledger (reply_of c.count_facets.result) ledger c.self.inside.rights c.self.inside.rights c.count_facets.new.filters c.self.invariant (record { spent = λ k. tt; device = λ k. tt; counted = λ k. tt; damaged = λ k. tt; reached = λ k. tt; told = tt; rises = omega arith; stays = tt; keeps = tt })
+    ledger (reply_of c.count_facets.result) ledger c.self.inside.rights c.self.inside.rights c.count_facets.new.filters c.self.invariant (record { spent = λ k. tt; device = λ k. tt; counted = λ k. tt; damaged = λ k. tt; reached = λ k. tt; quiet = λ k. refl; told = tt; swept = tt; rises = omega arith; stays = tt; keeps = tt })
     (read_uses (shape_in ledger) c.args.session facets.token c.self.inside.rights c.self.invariant.counted facets.query.now c.self.inside.filters
     c.count_facets.new.filters c.get-right.result (λ h. h.now) c.get-right.ensures (λ q. Read.facets facets.dimension.now facets.count q) c.count_facets.result
     (rw c.schema.ensures at c.count_facets.ensures.told) (rw c.schema.ensures at c.count_facets.ensures.noted)

@@ -2,7 +2,6 @@ use Rattle.std.proofs.Common.{refl, sym, ◌∙◌, ap, arith}
 use Rattle.std.specs.Prelude.{option_map}
 use Rattle.cat_model.specs.Answer.{Read}
 use Rattle.cat_model.specs.Lines.{Said}
-use Rattle.cat_commands.specs.cat_protocol.lines.Line.{sort_said}
 use Rattle.cat_commands.specs.cat_search.Sorts.{sort_of}
 use Rattle.cat_commands.specs.cat_protocol.replies.Reply.{reply_of}
 use Rattle.cat_commands.proofs.ledger_laws.Histories.{nothing_goes}
@@ -36,20 +35,20 @@ returns-clause-does g c = rw (← c.self.view_is) (
     let find = c.args.find in
     let ledger = c.self.inside.ledger in
     let o = option_map (λ h. h.now.view) c.get-right.result in
-    does g.D.Holder.bytes g.D.Holder.can_fail g.D.Holder.fault_count c.args.session (Said.find find.token find.count (sort_said find.sort) find.mark find.query.now)
-    ledger (reply_of c.find.result) ledger c.self.inside.rights c.self.inside.rights c.find.new.filters c.self.invariant (record { spent = λ k. tt; device = λ k. tt; counted = λ k. tt; damaged = λ k. tt; reached = λ k. tt; told = tt; rises = omega arith; stays = tt; keeps = tt })
+    does g.D.Holder.bytes g.D.Holder.can_fail g.D.Holder.fault_count c.args.session (Said.find find.token find.count (sort_of find.sort) find.mark find.query.now)
+    ledger (reply_of c.find.result) ledger c.self.inside.rights c.self.inside.rights c.find.new.filters c.self.invariant (record { spent = λ k. tt; device = λ k. tt; counted = λ k. tt; damaged = λ k. tt; reached = λ k. tt; quiet = λ k. refl; told = tt; swept = tt; rises = omega arith; stays = tt; keeps = tt })
     (read_uses (shape_in ledger) c.args.session find.token c.self.inside.rights c.self.invariant.counted find.query.now c.self.inside.filters c.find.new.filters
-    c.get-right.result (λ h. h.now) c.get-right.ensures (λ q. Read.find find.count (sort_of c.sort_asked.result) find.mark q) c.find.result
+    c.get-right.result (λ h. h.now) c.get-right.ensures (λ q. Read.find find.count (sort_of find.sort) find.mark q) c.find.result
     (rw c.schema.ensures at c.find.ensures.told) (rw c.schema.ensures at c.find.ensures.noted) (rw c.schema.ensures at c.find.ensures.used))
     (find_answers (policy_in ledger) (g.D.Holder.bytes (device_in ledger)) (shape_in ledger) c.args.session find.token c.self.inside.rights
-    c.self.invariant.counted find.count (sort_of c.sort_asked.result) (sort_said find.sort) find.mark find.query.now (reply_of c.find.result) o
-    c.sort_asked.ensures (sym (option_map_twice (λ h. h.now) (λ h. h.view) c.get-right.result) ∙ ap (option_map (λ h. h.view)) c.get-right.ensures)
+    c.self.invariant.counted find.count (sort_of find.sort) (sort_of find.sort) find.mark find.query.now (reply_of c.find.result) o
+    refl (sym (option_map_twice (λ h. h.now) (λ h. h.view) c.get-right.result) ∙ ap (option_map (λ h. h.view)) c.get-right.ensures)
     (rw c.schema.ensures at c.find.ensures.told))
     (λ x. x) refl refl
     (λ k.
     find_wants (g.D.Holder.bytes (device_in ledger)) (shape_in ledger) c.args.session c.find.result (stopped c.find.result k) c.get-right.result (λ h. h.now)
-    find.token c.self.inside.rights c.self.invariant.counted find.count (sort_of c.sort_asked.result) (sort_said find.sort) find.mark find.query.now
-    c.sort_asked.ensures c.get-right.ensures (rw c.schema.ensures at c.find.ensures.fault) (rw c.schema.ensures at c.find.ensures.unheld)
+    find.token c.self.inside.rights c.self.invariant.counted find.count (sort_of find.sort) (sort_of find.sort) find.mark find.query.now
+    refl c.get-right.ensures (rw c.schema.ensures at c.find.ensures.fault) (rw c.schema.ensures at c.find.ensures.unheld)
     (rw c.schema.ensures at c.find.ensures.due)))
 
 pub returns-clause-history : goal.returns-clause-history

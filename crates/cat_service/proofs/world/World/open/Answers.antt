@@ -6,7 +6,7 @@ use Rattle.cat_commands.specs.cat_ledger.Openings.{IsOpenedLedger}
 use Rattle.cat_commands.specs.cat_ledger.Ledgers.{device_in, shape_in}
 use Rattle.cat_commands.specs.views.Holding.{AreRights}
 use Rattle.cat_ledger_laws.specs.model.Plans.{MergePolicy}
-use Rattle.cat_service.proofs.Begun.{begins_so, begun, carried_there, none_counted, refused_schema, unopened}
+use Rattle.cat_service.proofs.Begun.{begins_so, begun, carried_there, formless_unasked, none_counted, opening_counts, refused_schema, schema_unasked, unopened}
 use Rattle.cat_service.proofs.Beside.{no_sets, no_states}
 use Rattle.cat_service.proofs.world.World.open.Goals as goal
 
@@ -74,6 +74,22 @@ returns-in-Err-open-clause-opens g c =
       ensures.same,
       ensures.spared,
     )
+
+pub returns-then-line-gt-MAX_LINE_BYTES-clause-counted : goal.returns-then-line-gt-MAX_LINE_BYTES-clause-counted
+returns-then-line-gt-MAX_LINE_BYTES-clause-counted g c = formless_unasked (g.D.Holder.can_fail c.args.device) (g.D.Holder.fault_count c.args.device)
+
+pub returns-in_default-clause-counted : goal.returns-in_default-clause-counted
+returns-in_default-clause-counted g c = formless_unasked (g.D.Holder.can_fail c.args.device) (g.D.Holder.fault_count c.args.device)
+
+pub returns-in-Err-clause-counted : goal.returns-in-Err-clause-counted
+returns-in-Err-clause-counted g c =
+    schema_unasked (g.D.Holder.can_fail c.args.device) (g.D.Holder.fault_count c.args.device) c.in-Some.found.json.now c.in-Err.refusal
+    (rw c.as_bytes.ensures.value at c.in-Err.ensures.err)
+
+pub returns-in-Err-open-clause-counted : goal.returns-in-Err-open-clause-counted
+returns-in-Err-open-clause-counted g c =
+    opening_counts (g.D.Holder.can_fail c.args.device) (g.D.Holder.fault_count c.args.device) (g.D.Holder.fault_count c.in-Err-open.field-0.device)
+    c.in-Err-open.field-0.refusal c.in-Err-open.ensures.device c.in-Err-open.ensures.counted
 
 pub invariant_of-result : goal.invariant_of-result
 invariant_of-result g c =
