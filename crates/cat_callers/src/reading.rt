@@ -5,7 +5,6 @@ ghost use Rattle.cat_threads.specs.cat_commands.cat_cached_sets.filters.Known.{K
 ghost use Rattle.cat_model.specs.View.{IsView, Segment};
 ghost use Rattle.cat_model.specs.Answer.{Read};
 ghost use Rattle.cat_threads.specs.cat_commands.cat_protocol.cat_search.Sorts.{sort_of};
-ghost use Rattle.cat_threads.specs.cat_commands.cat_protocol.lines.Line.{sort_said};
 ghost use Rattle.cat_threads.specs.cat_commands.cat_protocol.replies.Reply.{reply_of};
 ghost use Rattle.cat_threads.specs.service.Passes.{Follows, Idle, Seen};
 ghost use Rattle.cat_callers.specs.Sessions.{AreRightsTo, IsRightTo, ShowsSeen};
@@ -20,22 +19,11 @@ use cat_threads::cat_commands::cat_cached_sets::filters::Filters;
 use cat_threads::cat_commands::cat_cached_sets::{Hold, Query};
 use cat_threads::cat_commands::cat_protocol::lines::{Facets, Find};
 use cat_threads::cat_commands::cat_protocol::replies::Answer;
-use cat_threads::cat_commands::cat_protocol::{Prepared, ReaderStates, lines};
-use cat_threads::cat_commands::{Ask, Sort, searches};
+use cat_threads::cat_commands::cat_protocol::{Prepared, ReaderStates};
+use cat_threads::cat_commands::{Ask, searches};
 use cat_threads::{Naming, Pass};
 use std::alloc::{AllocError, Global};
 use std::sync::Wait;
-
-/// The sort that a line says.
-fn sort_asked(sort: lines::Sort<'_>) -> Sort<'_>
-    ensures { sort_of result ≡ sort_said sort.entry }
-{
-    match sort {
-        lines::Sort::Added => Sort::Added,
-        lines::Sort::Rising(name) => Sort::Rising(name),
-        lines::Sort::Falling(name) => Sort::Falling(name),
-    }
-}
 
 /// The sets that are kept, of which there are none, with the queries that are noted; they are taken out.
 fn take_filters(alloc: Global, kept: &mut Option<Filters>) -> Result<Filters, AllocError>
@@ -75,10 +63,10 @@ fn numbers_differ(right: Option<&Hold>)
 
 /// What a FIND asks for beside its query.
 fn ask_of<'a>(find: &Find<'a>) -> Ask<'a>
-    ensures { (result.count ≡ find.now.count) × (result.after ≡ find.now.mark) × (sort_of result.sort ≡ sort_said find.now.sort) }
+    ensures { (result.count ≡ find.now.count) × (result.after ≡ find.now.mark) × (sort_of result.sort ≡ sort_of find.now.sort) }
 {
     Ask {
-        sort: sort_asked(find.sort),
+        sort: find.sort,
         after: find.mark,
         count: find.count,
     }
@@ -137,7 +125,7 @@ impl<'a, D: Directory + Shelf, J: Naming, R: Wait> Front<'a, D, J, R> {
         ensures seen { Follows me.old me.new }
         ensures idle { Idle me.old me.new }
         ensures told { ToldQuery J.from me.old holdings.now.rights find.entry.token find.entry.query.now
-            (Read.find find.entry.count (sort_said find.entry.sort) find.entry.mark) (reply_of result) }
+            (Read.find find.entry.count (sort_of find.entry.sort) find.entry.mark) (reply_of result) }
     {
         let ask = ask_of(&find);
         let query = match Query::parse(self.schema, self.alloc, find.query) {
