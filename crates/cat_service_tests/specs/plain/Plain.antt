@@ -9,9 +9,8 @@ use Rattle.cat_model.specs.Table.{Opened}
 use Rattle.cat_model.specs.Run.{Answer, Command, Reply, greatest}
 use Rattle.cat_model.specs.State.{State, Moves, IsFresh, opened_as, has_hold, has_view, tokens}
 use Rattle.cat_model.specs.Lines.{Said}
-use Rattle.cat_model.specs.Served.{Begins, OpensEmpty}
+use Rattle.cat_model.specs.Served.{Begins, HasSchemaText, OpensEmpty}
 use Rattle.cat_search.specs.cat_items.Reading.{json, source_fault}
-use Rattle.cat_service.specs.Opening.{HasSchemaText}
 
 -- a service, and the schema that it was opened under
 pub record PlainService : Type 0 where

@@ -1,6 +1,7 @@
 //! Lines as a die throws them, of the commands that both catalogues answer.
 use cat_base::Token;
-use cat_service::cat_protocol::lines::{Command, Facets, Find, Line, Sort};
+use cat_service::cat_protocol::Sort;
+use cat_service::cat_protocol::lines::{Command, Facets, Find, Line};
 
 const IDS: &[&str] = &["a", "b", "c", "d", "e", "f", "g", "h"];
 

@@ -4,7 +4,7 @@ use Rattle.cat_model.specs.Answer.{Read}
 use Rattle.cat_model.specs.Heard.{id_of}
 use Rattle.cat_model.specs.Run.{Command}
 use Rattle.cat_search.specs.cat_items.Reading.{item_of}
-use Rattle.cat_service.specs.cat_protocol.lines.Line.{sort_said}
+use Rattle.cat_search.specs.Sorts.{sort_of}
 use Rattle.cat_service_tests.specs.plain.Exchange.{find_of}
 use Rattle.cat_service_tests.specs.plain.Line.{plain_of}
 use Rattle.cat_service_tests.proofs.plain.catalogue.Finds.{asks_so}
@@ -27,7 +27,7 @@ returns-in-Find-clause-does c =
     let does = c.answer_find.ensures in
     let find = c.in-Find.find in (
       Command.read find.token (find_of c.ask_of.result does.0),
-      rw c.in-Find.is (does.0, does.1, ap (Command.read find.token) (asks_so c.ask_of.result find.count (sort_said find.sort) find.mark does.0 c.ask_of.ensures.count c.ask_of.ensures.sort c.ask_of.ensures.mark)),
+      rw c.in-Find.is (does.0, does.1, ap (Command.read find.token) (asks_so c.ask_of.result find.count (sort_of find.sort) find.mark does.0 c.ask_of.ensures.count c.ask_of.ensures.sort c.ask_of.ensures.mark)),
       does.2,
     )
 
