@@ -4,6 +4,7 @@
 
 mod arguments;
 mod endings;
+mod folders;
 mod running;
 
 use std::process::ExitCode;

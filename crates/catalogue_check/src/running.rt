@@ -1,13 +1,15 @@
 //! Judges the folder that the arguments name, and tells what is found on standard output.
-ghost use Rattle.std.specs.Prelude.{◌≡◌};
+ghost use Rattle.std.specs.Prelude.{◌≡◌, IfOk};
 ghost use Rattle.std.specs.Process.{exit_status};
-ghost use Rattle.catalogue_check.specs.Ended.{CheckEndsBy, ending_of, ending_told, status_of};
+ghost use Rattle.catalogue_check.specs.declared.endings.Ending.{Ending};
+ghost use Rattle.catalogue_check.specs.Ended.{CheckEndsBy, DropsAt, EndsAsAsked, EndsBy, JudgesAt, ending_told, status_of};
 
 use crate::arguments::{Task, USAGE};
 use crate::endings::Ending;
+use crate::folders::Folders;
 use cat_base::Refusal;
 use cat_check::{Checked, check, drop_torn, tell, tell_standing};
-use cat_directory::{Folder, FolderLock, LockRefusal};
+use cat_directory::{Directory, FolderLock, LockRefusal, Shelf};
 use std::fs::{File, Files};
 use std::io::{BufWriter, Write};
 use std::process::ExitCode;
@@ -26,11 +28,13 @@ fn show<R: AllocGlobal + Print>(rt: &R, checked: &Checked) -> io::Result<()> {
     out.flush()
 }
 
-/// Judges the folder.
-fn judge<R: AllocGlobal + Print + Files + Clone + Drop>(
+/// Judges the folder, and tells what is found.
+fn judge<R: AllocGlobal + Print, D: Directory + Shelf>(
     rt: &R,
-    folder: &mut Folder<R>,
-) -> Result<Ending, Refusal> {
+    folder: &mut D,
+) -> Result<Ending, Refusal>
+    ensures { IfOk result (EndsBy (D.bytes folder.old) (D.can_fail folder.old)) }
+{
     let checked = check(rt.alloc(), folder)?;
     let _ = show(rt, &checked);
     Ok(Ending::of(&checked))
@@ -58,41 +62,46 @@ fn ask_use<R: AllocGlobal + Eprint + Files<File = File>>(
 }
 
 /// Judges the folder at the path.
-fn judge_at<R: AllocGlobal + Print + Files + Clone + Drop>(
-    rt: &R,
-    path: &str,
-) -> Result<Ending, Refusal> {
-    let mut folder = Folder::at(rt.clone()?, rt.alloc(), path)?;
+fn judge_at<R: AllocGlobal + Print + Folders>(rt: &R, path: &str) -> Result<Ending, Refusal>
+    ensures { IfOk result (JudgesAt (R.leads rt.now) R.Folder.bytes R.Folder.can_fail path.now) }
+{
+    let mut folder = rt.folder_at(path)?;
     judge(rt, &mut folder)
 }
 
 /// Judges the folder at the path, and says whether a program works over it.
-fn judge_asked<R: AllocGlobal + Print + Eprint + Files<File = File> + Clone + Drop>(
+fn judge_asked<R: AllocGlobal + Print + Eprint + Files<File = File> + Folders>(
     rt: &R,
     path: &str,
-) -> Result<Ending, Refusal> {
+) -> Result<Ending, Refusal>
+    ensures { IfOk result (JudgesAt (R.leads rt.now) R.Folder.bytes R.Folder.can_fail path.now) }
+{
     ask_use(rt, path)?;
     judge_at(rt, path)
 }
 
 /// Deletes the file of a torn commit over a whole one in the folder at the path, whose lock is kept to the end, and judges what
 /// is there then.
-fn drop_locked<R: AllocGlobal + Print + Files + Clone + Drop, F: Drop>(
+fn drop_locked<R: AllocGlobal + Print + Folders, F: Drop>(
     rt: &R,
     path: &str,
     _lock: FolderLock<F>,
-) -> Result<Ending, Refusal> {
-    let mut folder = Folder::at(rt.clone()?, rt.alloc(), path)?;
+) -> Result<Ending, Refusal>
+    ensures { IfOk result (DropsAt (R.leads rt.now) R.Folder.bytes R.Folder.can_fail path.now) }
+{
+    let mut folder = rt.folder_at(path)?;
     let standing = drop_torn(rt.alloc(), &mut folder)?;
     let _ = tell_standing(&mut io::writer(rt), standing);
     judge(rt, &mut folder)
 }
 
 /// Deletes nothing in the folder at the path, over which a program works, and judges it.
-fn drop_nothing<R: AllocGlobal + Print + Eprint + Files + Clone + Drop>(
+fn drop_nothing<R: AllocGlobal + Print + Eprint + Folders>(
     rt: &R,
     path: &str,
-) -> Result<Ending, Refusal> {
+) -> Result<Ending, Refusal>
+    ensures { IfOk result (JudgesAt (R.leads rt.now) R.Folder.bytes R.Folder.can_fail path.now) }
+{
     tell_use(rt);
     let _ = rt.println("dropped nothing: a program works over the folder");
     judge_at(rt, path)
@@ -100,10 +109,12 @@ fn drop_nothing<R: AllocGlobal + Print + Eprint + Files + Clone + Drop>(
 
 /// Deletes the file of a torn commit over a whole one in the folder at the path, unless a program works over it, and judges
 /// what is there then.
-fn drop_at<R: AllocGlobal + Print + Eprint + Files<File = File> + Clone + Drop>(
+fn drop_at<R: AllocGlobal + Print + Eprint + Files<File = File> + Folders>(
     rt: &R,
     path: &str,
-) -> Result<Ending, Refusal> {
+) -> Result<Ending, Refusal>
+    ensures { IfOk result (DropsAt (R.leads rt.now) R.Folder.bytes R.Folder.can_fail path.now) }
+{
     match FolderLock::take(rt, rt.alloc(), path) {
         Ok(lock) => drop_locked(rt, path, lock),
         Err(LockRefusal::InUse) => drop_nothing(rt, path),
@@ -126,11 +137,11 @@ fn ending_after<R: Eprint>(rt: &R, judged: Result<Ending, Refusal>) -> Ending
 }
 
 /// Does what the words ask for.
-fn do_task<R: AllocGlobal + Print + Eprint + Files<File = File> + Clone + Drop>(
+fn do_task<R: AllocGlobal + Print + Eprint + Files<File = File> + Folders>(
     rt: &R,
     task: Task<'_>,
 ) -> Ending
-    ensures { CheckEndsBy task.entry result }
+    ensures { CheckEndsBy (R.leads rt.now) R.Folder.bytes R.Folder.can_fail task.entry result }
 {
     match task {
         Task::Judge(path) => ending_after(rt, judge_asked(rt, path)),
@@ -143,9 +154,9 @@ fn do_task<R: AllocGlobal + Print + Eprint + Files<File = File> + Clone + Drop>(
 }
 
 /// Does what the arguments ask for. Words that can't be read ask for nothing that the program does.
-fn do_asked<R: Env + AllocGlobal + Print + Eprint + Files<File = File> + Clone + Drop>(
-    rt: &R,
-) -> Ending {
+fn do_asked<R: Env + AllocGlobal + Print + Eprint + Files<File = File> + Folders>(rt: &R) -> Ending
+    ensures { EndsAsAsked (R.leads rt.now) R.Folder.bytes R.Folder.can_fail result }
+{
     match words(rt) {
         Ok(words) => do_task(rt, Task::asked_by(words.as_slice())),
         Err(_) => do_task(rt, Task::Usage),
@@ -161,8 +172,10 @@ fn exit(ending: Ending) -> ExitCode
 
 /// Runs the program, and says the exit status: 0 where the newest commit is whole, 1 where it isn't or there is none, 2 where
 /// the arguments are wrong or the folder can't be read.
-pub(crate) fn run<R: Env + AllocGlobal + Print + Eprint + Files<File = File> + Clone + Drop>(
+pub(crate) fn run<R: Env + AllocGlobal + Print + Eprint + Files<File = File> + Folders>(
     rt: &R,
-) -> ExitCode {
+) -> ExitCode
+    ensures { (ending : Ending) × EndsAsAsked (R.leads rt.now) R.Folder.bytes R.Folder.can_fail ending × (exit_status result ≡ status_of ending) }
+{
     exit(do_asked(rt))
 }
