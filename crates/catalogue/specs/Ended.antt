@@ -1,11 +1,9 @@
 -- How the program ends, with which exit status, and what it says of a fault.
-use Rattle.std.specs.Prelude.{◌≡◌, ◌≢◌, ◌⊎◌, ℕ, List, codes, Result, Ok, Err}
+use Rattle.std.specs.Prelude.{ℕ, List, codes, Result, Ok, Err}
 use Rattle.cat_service.specs.cat_protocol.declared.serving.serving.ServeFault.{ServeFault}
 use Rattle.cat_service.specs.cat_protocol.declared.serving.serving.ServeFault.TheVariants as fault
 use Rattle.cat_callers.specs.declared.threads.Fault.{Fault as ThreadsFault}
 use Rattle.cat_callers.specs.declared.threads.Fault.TheVariants as threads
-use Rattle.catalogue.specs.declared.arguments.Task.{Task}
-use Rattle.catalogue.specs.declared.arguments.Task.TheVariants as task
 use Rattle.catalogue.specs.declared.endings.RunFault.{RunFault}
 use Rattle.catalogue.specs.declared.endings.RunFault.TheVariants.{InUse, Serving, NotStarted}
 use Rattle.catalogue.specs.declared.endings.Ending.{Ending}
@@ -38,17 +36,6 @@ ending_of (Err (Serving fault.Schema)) = SchemaRefused
 ending_of (Err (Serving fault.Read)) = Fault
 ending_of (Err (Serving fault.Write)) = Fault
 ending_of (Err NotStarted) = Unstarted
-
--- How a task may end. What asks for nothing that the program does ends so, and nothing else does; a version is said, unless it can't
--- be written.
-abbrev pub TaskEndsBy : Task → Ending → Type 0
-TaskEndsBy task.InMemory ending = ending ≢ WrongArguments
-TaskEndsBy (task.InFolder path) ending = ending ≢ WrongArguments
-TaskEndsBy (task.InThreads path) ending = ending ≢ WrongArguments
-TaskEndsBy (task.StreamedInMemory count) ending = ending ≢ WrongArguments
-TaskEndsBy (task.StreamedInFolder count path) ending = ending ≢ WrongArguments
-TaskEndsBy task.Version ending = (ending ≡ EndOfInput) ⊎ (ending ≡ Fault)
-TaskEndsBy task.Usage ending = ending ≡ WrongArguments
 
 -- the exit status
 abbrev pub status_of : Ending → ℕ

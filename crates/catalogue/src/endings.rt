@@ -1,6 +1,5 @@
 //! How the program ends.
-ghost use Rattle.std.specs.Prelude.{◌≡◌, ◌≢◌};
-ghost use Rattle.catalogue.specs.declared.endings.Ending.TheVariants.{WrongArguments};
+ghost use Rattle.std.specs.Prelude.{◌≡◌};
 ghost use Rattle.catalogue.specs.Ended.{ending_of, in_use_fault, message_of, status_of, threads_fault};
 
 use cat_callers::Fault;
@@ -56,8 +55,7 @@ pub(crate) enum Ending {
 
 impl Ending {
     pub(crate) fn of(served: Result<(), RunFault>) -> Ending
-        ensures of { result ≡ ending_of served }
-        ensures served { result ≢ WrongArguments }
+        ensures { result ≡ ending_of served }
     {
         match served {
             Ok(()) => Ending::EndOfInput,

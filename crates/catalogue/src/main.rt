@@ -3,6 +3,7 @@
 
 mod arguments;
 mod endings;
+mod folders;
 mod running;
 mod threading;
 

@@ -1,8 +1,12 @@
 //! Serves sessions in threads over the program's standard streams.
+ghost use Rattle.cat_directory.specs.Names.{by_names};
+ghost use Rattle.catalogue.specs.Served.{IsThreadedIfFree};
+
 use crate::endings::RunFault;
-use crate::running::{GATHERED, folder_at, refuse_for_memory, serve_nowhere, told};
+use crate::folders::Folders;
+use crate::running::{GATHERED, refuse_for_memory, serve_unlocked, told};
 use cat_callers::{Fault, MAX_THREADS, SharedMemory, serve_stream, serve_threads};
-use cat_directory::{Directory, Folder, FolderLock, FolderShelf, LockRefusal, Shelf};
+use cat_directory::{Directory, Folder, FolderShelf, Shelf};
 use std::alloc::AllocError;
 use std::fs::{File, Files};
 use std::io;
@@ -39,7 +43,8 @@ fn files_at<R: AllocGlobal + Files + Clone + Drop>(
     path: &str,
     count: usize,
 ) -> Result<(Folder<R>, Vec<FolderShelf<R>>), AllocError> {
-    Ok((folder_at(rt, path)?, shelves_at(rt, path, count)?))
+    let folder = Folder::at(rt.clone()?, rt.alloc(), path)?;
+    Ok((folder, shelves_at(rt, path, count)?))
 }
 
 /// What ended serving, if it didn't end with the input.
@@ -145,16 +150,16 @@ fn thread_locked<
         + Threads
         + Wait
         + Clock,
-    F: Drop,
->(rt: &R, path: &str, threading: Threading, _lock: FolderLock<F>) -> Result<(), RunFault> {
+    L: Drop,
+>(rt: &R, path: &str, threading: Threading, _lock: L) -> Result<(), RunFault> {
     match threading {
         Threading::Each => each_at(rt, path),
         Threading::By(count) => stream_at(rt, path, count),
     }
 }
 
-/// Answers in threads over the folder at the path, once its lock is had. One that can't be locked or listed is told in the reply
-/// to the schema line, and is left as it is.
+/// Answers in threads over the folder at the path, once its lock is had. One that can't be listed is told in the reply to the
+/// schema line, and is left as it is.
 pub(crate) fn thread_folder<
     R: AllocGlobal
         + Input
@@ -166,12 +171,15 @@ pub(crate) fn thread_folder<
         + Sync
         + Threads
         + Wait
-        + Clock,
->(rt: &R, path: &str, threading: Threading) -> Result<(), RunFault> {
-    match FolderLock::take(rt, rt.alloc(), path) {
+        + Clock
+        + Folders,
+>(rt: &R, path: &str, threading: Threading) -> Result<(), RunFault>
+    ensures { IsThreadedIfFree (R.locks rt.now) (R.leads rt.now)
+        (by_names R.Folder.bytes R.Folder.may_leave R.Folder.can_fail R.Folder.fault_count)
+        R.Reader.remaining path.now result }
+{
+    match rt.lock(path) {
         Ok(lock) => thread_locked(rt, path, threading, lock),
-        Err(LockRefusal::InUse) => Err(RunFault::in_use(serve_nowhere(rt))),
-        Err(LockRefusal::Device) => told(serve_nowhere(rt)),
-        Err(LockRefusal::Memory) => told(Err(refuse_for_memory(rt))),
+        Err(refusal) => serve_unlocked(rt, refusal),
     }
 }
