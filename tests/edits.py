@@ -1,18 +1,23 @@
 #!/usr/bin/env python3
 """Tries the must-fail edits of tests/edits, and of crates/*/must-fail: wrong bodies, each of which its own crate's contracts have to refuse.
 
-usage: tests/edits.py [--anew] [--lanes N] [CRATE..]
+usage: tests/edits.py [--anew] [--as-they-stand] [--lanes N] [--only LETTERS] [CRATE..]
 
-All edits of a crate go into one copy of it, and one check proves the functions that they change and those that they call; of
-two edits of one function the second goes into a further check, which takes from the one before what is the same. An edit is
-refused where its function is not proved, and for what it
-does: a goal of its own function is left open, or an answer to one no longer proves it. Where nothing but names that are gone
-tells against it, it shows nothing of the contract, and counts as not refused. An edit with a line '# compiler: TEXT' is one that
-must not compile: the compiler has to refuse it by an error with this text.
+All edits of a crate go into one copy of it, and one check proves the functions that they change; of two edits of one function
+the second goes into a further check, which takes from the one before what is the same. A caller's proof rests on nothing of a
+callee but its contract, so every other function of the copy is left with that alone: its body is taken out, and a hole stands
+for its proof. An edit is refused where its function is not proved, and for what it does: a goal of its own function is left open,
+or an answer to one no longer proves it. Where nothing but names that are gone tells against it, it shows nothing of the contract,
+and counts as not refused. What isn't refused beside such functions is tried again in a copy that has each with its body and its
+proof, and what comes of that stands. An edit with a line '# compiler: TEXT' is one that must not compile: the compiler has to
+refuse it by an error with this text.
 
 A crate is tried over the libraries below it as `rt ci` built and kept them on this machine, or else over those that `rt lib`
 builds. What an edit came to is kept beside the kit by the checksums of all that it stands on, and not tried again before one
 of these changes; --anew tries all. The last line is `N refused, M not`, and the status 0 where M is.
+
+With --as-they-stand the edits are left out, and nothing is kept: the same checks have to prove each function, so that what
+refuses an edit is the edit. The last line is then `N proved as they stand, M not`.
 """
 
 import argparse
@@ -32,6 +37,7 @@ from pathlib import Path
 sys.path.insert(0, str(Path(__file__).resolve().parent))
 
 import kit  # noqa: E402
+from functions import leave_contracts, unit_at, unit_named, units_of  # noqa: E402
 from sources import TOP, Sources  # noqa: E402
 
 EDITS = TOP / "tests" / "edits"
@@ -47,115 +53,8 @@ LOGS = os.environ.get("EDITS_LOGS")
 TOLD = re.compile(r"(?:note: )?(?:\./)?((?:src|proofs|specs)/[^:\s]+):(\d+):\d+: (.*)")
 OPEN = re.compile(r"it is not proved that")
 FALSE = "the facts known there allow values at which this goal is false"
-
-
-class Unit:
-    """What is proved as one: a function, or the cycle of functions that it is in."""
-
-    def __init__(self, file, module, names, cycle, first, last):
-        self.file, self.cycle, self.first, self.last = file, cycle, first, last
-        self.path = "::".join([*module, *names])
-        # A closure of the function stands beside it in the module, below `fn`.
-        self.closures = "::".join([*module, "fn", *names])
-        self.key = ("cycle", cycle) if cycle else ("fn", self.path)
-
-    def owns_line(self, file, line):
-        return file == self.file and self.first <= line <= self.last
-
-    def owns_proof(self, file):
-        """Whether the file is one of this function's proof: below proofs/ the folders are named as its path is."""
-        folder = file[len("proofs/") :].rpartition("/")[0].replace("/", "::")
-        above, _, name = self.path.rpartition("::")
-        # A cycle of functions has one proof; one that calls itself is a cycle of its own.
-        of_cycle = folder.rpartition("::")[2] == f"+{self.cycle}" or folder == (f"{above}::+{name}" if above else f"+{name}")
-        return folder == self.path or of_cycle or f"{folder}::".startswith(f"{self.closures}::")
-
-    def owns_name(self, name):
-        """Whether a check's line on this name speaks of the function, or of a closure in it."""
-        return name == self.path or name.startswith(f"{self.closures}::")
-
-
-def without_brackets(text):
-    """The text without what stands between angle brackets, and those."""
-    while True:
-        less = re.sub(r"<[^<>]*>", "", text)
-        if less == text:
-            return text
-        text = less
-
-
-def type_word(text):
-    """The word that rattle makes of a type in a path: its last name, and those of its arguments."""
-    text = re.sub(r"'\w+\s*,?\s*", "", text.strip())
-    text = re.sub(r"<\s*>", "", text)
-    if text.startswith("&"):
-        return "Ref" + type_word(text[1:].replace("mut ", "Mut", 1))
-    return without_brackets(text).split("::")[-1].strip()
-
-
-def owner_of(header):
-    """What stands for an impl's type, or its type and trait, in a function's path."""
-    header = re.sub(r"\s+", " ", header).partition(" where ")[0].strip()
-    header = re.sub(r"^(unsafe )?impl\b\s*", "", header)
-    if header.startswith("<"):
-        depth = 0
-        for at, letter in enumerate(header):
-            depth += (letter == "<") - (letter == ">" and header[at - 1] != "-")
-            if not depth:
-                header = header[at + 1 :].strip()
-                break
-    trait, is_of_trait, of = header.partition(" for ")
-    if not is_of_trait:
-        return type_word(header)
-    inside = re.search(r"<(.*)>", trait)
-    arguments = "".join(type_word(it) for it in inside[1].split(",")) if inside else ""
-    return type_word(of) + type_word(trait) + arguments
-
-
-def module_of(file):
-    path = Path(file).with_suffix("").relative_to("src").as_posix()
-    return [] if path in ("lib", "main") else path.split("/")
-
-
-def home_of(room, name, file):
-    """The module of the crate's type of this name: a type's own methods are named by that, and not by where they stand."""
-    found = [it for it in sorted(room.glob("src/**/*.rt")) if re.search(rf"(?m)^\s*(pub(\([^)]*\))? )?(struct|enum) {name}\b", it.read_text(encoding="utf-8"))]
-    return module_of(found[0].relative_to(room).as_posix()) if len(found) == 1 else module_of(file)
-
-
-def unit_at(room, file, text, at):
-    """The function of the file that has this place in its body, or None."""
-    lines = text.split("\n")
-    row = text.count("\n", 0, at)
-    for first in range(row, -1, -1):
-        found = re.match(r"(\s*)(?:pub(?:\([^)]*\))? )?(?:(?:const|unsafe|ghost) )*fn (\w+)", lines[first])
-        if found:
-            break
-    else:
-        return None
-    indent, name = found[1], found[2]
-    last = next((it for it in range(first, len(lines)) if re.match(rf"{indent}\}}", lines[it])), first)
-    if last < row:
-        return None
-    module, names = module_of(file), [name]
-    if indent:
-        for head in range(first, -1, -1):
-            if re.match(r"(unsafe )?impl\b|(pub(\([^)]*\))? )?trait\b", lines[head]):
-                header = "\n".join(lines[head : first + 1]).partition("{")[0]
-                trait = re.match(r"(pub(\([^)]*\))? )?trait (\w+)", header)
-                owner = trait[3] if trait else owner_of(header)
-                if not trait and " for " not in without_brackets(header):
-                    module = home_of(room, owner, file)
-                names.insert(0, owner)
-                break
-    cycle = None
-    for above in range(first - 1, -1, -1):
-        line = lines[above].strip()
-        if not line.startswith(("#[", "//", "///")):
-            break
-        of = re.fullmatch(r"#\[cycle\((\w+)\)\]", line)
-        cycle = of[1] if of else cycle
-    return Unit(file, module, names, cycle, first + 1, last + 1)
+# What the prover says of a function that it accepts: the last two where it is told to check past the holes of others.
+ACCEPTED = ("proved", "no holes", "depends on a hole in ")
 
 
 class Edit:
@@ -231,21 +130,6 @@ class Edit:
         return list(units.values()), None
 
 
-def units_of(room, path, text):
-    """The functions of the file."""
-    found = [unit_at(room, path, text, it.start()) for it in re.finditer(r"(?m)^ *(?:pub(?:\([^)]*\))? )?(?:(?:const|unsafe) )*fn \w+", text)]
-    return [it for it in found if it]
-
-
-def unit_named(room, name):
-    """The function of this path in the crate."""
-    for file in sorted(room.glob("src/**/*.rt")):
-        for unit in units_of(room, file.relative_to(room).as_posix(), file.read_text(encoding="utf-8")):
-            if unit.path == name:
-                return unit
-    return None
-
-
 def files_of(crate):
     """The files of the crate's edits: those of tests/edits, and those that `rt ci` tries too."""
     return sorted([*(EDITS / crate).glob("*.edit"), *(TOP / "crates" / crate / "must-fail").glob("*.edit")], key=lambda it: it.name)
@@ -254,8 +138,8 @@ def files_of(crate):
 class Batch:
     """Edits of one crate that go into one check: no two change one function."""
 
-    def __init__(self, crate):
-        self.crate, self.edits, self.keys, self.is_alone = crate, [], set(), False
+    def __init__(self, crate, number):
+        self.crate, self.number, self.edits, self.keys, self.is_alone = crate, number, [], set(), False
 
     def takes(self, edit, units):
         keys = {it.key for it in units}
@@ -273,6 +157,13 @@ def copied(crate, room):
             shutil.copytree(TOP / "crates" / crate / part, room / part)
 
 
+def put_back(crate, edit, room):
+    """Takes the edit from the copy again."""
+    for path in {path for path, _, _ in edit.pairs}:
+        if (room / path).is_file():
+            shutil.copyfile(TOP / "crates" / crate / path, room / path)
+
+
 def batches_of(crate, edits):
     """Batches for the edits, and of those that can't be applied why."""
     batches, faults = [], {}
@@ -282,36 +173,40 @@ def batches_of(crate, edits):
             copied(crate, room)
         for edit in edits:
             units, why = (None, edit.fault) if edit.fault else edit.apply(room)
-            for path in {path for path, _, _ in edit.pairs}:
-                if (room / path).is_file():
-                    shutil.copyfile(TOP / "crates" / crate / path, room / path)
+            put_back(crate, edit, room)
             if why:
                 faults[edit] = why
             elif not any(it.takes(edit, units) for it in batches):
-                batches.append(Batch(crate))
+                batches.append(Batch(crate, len(batches) + 1))
                 batches[-1].takes(edit, units)
     return batches, faults
 
 
-def check(crate, edits, words, kept):
-    """Checks the crate with these edits, and gives what each came to; one that doesn't go with the others stands in no answer.
+def check(batch, edits, words, kept, as_they_stand=False):
+    """Checks the crate with these edits of the batch, and gives what each came to; one that doesn't go with the others stands in no answer.
 
-    The folder `kept` has what earlier checks of the crate proved, each by the texts that it was proved of."""
+    Where the words let holes pass, each function that no edit changes is left with its contract alone. The folder `kept` has
+    what earlier checks of the crate proved, each by the texts that it was proved of."""
     with tempfile.TemporaryDirectory(prefix="edits-") as room:
         room = Path(room)
-        copied(crate, room)
+        copied(batch.crate, room)
         units = {}
         for edit in edits:
             found, why = edit.apply(room)
+            if as_they_stand:
+                put_back(batch.crate, edit, room)
             if why is None:
                 units[edit] = found
+        changed = [it for found in units.values() for it in found]
+        is_whole = "--allow-holes" not in words
+        if not is_whole:
+            leave_contracts(batch.crate, room, changed)
         # What an edit adds or takes away is one line for one line, so the places of functions stay.
-        only = sorted({unit.path for found in units.values() for unit in found})
-        asked = [word for name in only for word in ("--only", name)]
+        asked = [word for name in sorted({it.path for it in changed}) for word in ("--only", name)]
         ran = subprocess.run([*words, *asked, "--incremental", kept], cwd=room, stdin=subprocess.DEVNULL, stdout=subprocess.PIPE, stderr=subprocess.STDOUT, errors="replace")
         if LOGS:
-            log = Path(LOGS) / f"{edits[0].crate}-{'all' if len(edits) > 1 else edits[0].name}.log"
-            log.write_text(f"{' '.join(asked)}\n{ran.stdout}", encoding="utf-8")
+            named = f"{batch.crate}-{batch.number if len(edits) > 1 else edits[0].name}{'-whole' if is_whole else ''}"
+            Path(LOGS, f"{named}.log").write_text(f"{' '.join(asked)}\n{ran.stdout}", encoding="utf-8")
         return {edit: judged(edit, found, ran) for edit, found in units.items()}
 
 
@@ -344,7 +239,7 @@ def judged(edit, units, ran):
         return MISSED, f"it compiles, and the compiler was to say '{edit.compiler}'"
     unproved = {name: status for name, status in mine.items() if status.startswith(("not proved", "no proof"))}
     if not unproved:
-        if all(status.startswith("proved") for status in mine.values()):
+        if all(status.startswith(ACCEPTED) for status in mine.values()):
             return MISSED, f"{', '.join(mine)} is still proved"
         return UNTRIED, "; ".join(f"{name}: {status}" for name, status in mine.items())[:200]
     opened, refused, gone, gone_goals, is_false = [], [], [], set(), False
@@ -383,9 +278,9 @@ def judged(edit, units, ran):
 class Results:
     """What edits came to earlier on this machine, each by the sum of all that it stands on."""
 
-    def __init__(self, sources, anew):
-        self.at, self.sources, self.anew = kit.store() / "edits", sources, anew
-        judge = b"".join(Path(__file__).with_name(it).read_bytes() for it in ("edits.py", "sources.py", "kit.py"))
+    def __init__(self, sources, asked):
+        self.at, self.sources, self.asked = kit.store() / "edits", sources, asked
+        judge = b"".join(Path(__file__).with_name(it).read_bytes() for it in ("edits.py", "functions.py", "sources.py", "kit.py"))
         self.judge = hashlib.sha256(judge).hexdigest()
 
     def name(self, edit):
@@ -393,7 +288,7 @@ class Results:
         return hashlib.sha256(repr(made).encode()).hexdigest()
 
     def known(self, edit):
-        if self.anew:
+        if self.asked.anew or self.asked.as_they_stand:
             return None
         try:
             found = json.loads((self.at / self.name(edit)).read_text(encoding="utf-8"))
@@ -402,7 +297,7 @@ class Results:
             return None
 
     def keep(self, edit, kind, text):
-        if kind not in SETTLED:
+        if kind not in SETTLED or self.asked.as_they_stand:
             return
         try:
             self.at.mkdir(parents=True, exist_ok=True)
@@ -413,26 +308,58 @@ class Results:
             pass
 
 
-def tried(batch, libraries, kept):
-    """What each edit of the batch comes to. Where they don't go together, each is tried by itself."""
+def tried(batch, libraries, kept, as_they_stand):
+    """What each edit of the batch comes to.
+
+    Beside functions with nothing but their contracts a check may only refuse: what else it says, a check of the whole has to
+    say too. Where edits don't go together there, each is tried by itself."""
     words = libraries.words(batch.crate)
     if words is None:
         return {edit: (UNTRIED, "the crate, or a library below it, isn't built as it stands") for edit in batch.edits}
-    found = check(batch.crate, batch.edits, words, kept)
-    for edit in batch.edits:
-        if edit not in found or found[edit][0] in (BAD, UNTRIED) and len(batch.edits) > 1:
-            found.update(check(batch.crate, [edit], words, kept))
+    found, left = {}, batch.edits
+    # Of a text that must not compile the prover sees nothing, and the compiler has to see it all.
+    if as_they_stand or not any(it.compiler for it in left):
+        found = check(batch, left, [*words, "--allow-holes"], kept, as_they_stand)
+        left = [] if as_they_stand else [it for it in left if it not in found or found[it][0] != REFUSED]
+    if left:
+        found.update(check(batch, left, words, kept))
+    for edit in left:
+        if edit not in found or found[edit][0] in (BAD, UNTRIED) and len(left) > 1:
+            found.update(check(batch, [edit], words, kept))
     return found
 
 
-def main():
+def asked_for():
     parser = argparse.ArgumentParser("edits.py", description="Tries the must-fail edits of tests/edits.")
     parser.add_argument("--anew", action="store_true", help="try those too whose result is kept")
+    parser.add_argument("--as-they-stand", action="store_true", help="leave the edits out: each function has to be proved")
     parser.add_argument("--lanes", type=int, help="how many checks go side by side")
     parser.add_argument("--only", help="edits whose names have these letters")
     parser.add_argument("crates", nargs="*", metavar="CRATE")
-    asked = parser.parse_args()
-    sources = Sources()
+    return parser.parse_args()
+
+
+def try_all(batches, sources, asked, tell):
+    """Tries the batches of all crates, the crates side by side, and tells what each edit comes to."""
+    libraries, telling = kit.Libraries(sources, sorted(batches)), threading.Lock()
+
+    def work(crate):
+        with tempfile.TemporaryDirectory(prefix="edits-kept-") as kept:
+            for batch in batches[crate]:
+                found = tried(batch, libraries, kept, asked.as_they_stand)
+                with telling:
+                    for edit, (kind, text) in found.items():
+                        tell(edit, kind, text)
+
+    with ThreadPoolExecutor(max(1, asked.lanes or kit.lanes())) as pool:
+        # The longest checks first.
+        for it in [pool.submit(work, crate) for crate in sorted(batches, key=lambda it: -sources.size_below(it))]:
+            it.result()
+    libraries.close()
+
+
+def main():
+    asked, sources = asked_for(), Sources()
     crates = asked.crates or sorted({*(it.name for it in EDITS.iterdir()), *(it for it in sources.uses if files_of(it))})
     for it in crates:
         if it not in sources.uses or not files_of(it):
@@ -440,43 +367,32 @@ def main():
             return 2
     edits = [Edit(crate, file) for crate in crates for file in files_of(crate)]
     edits = [it for it in edits if not asked.only or asked.only in it.name]
-    results = Results(sources, asked.anew)
+    results, start = Results(sources, asked), time.monotonic()
     told = {edit: found for edit in edits for found in [results.known(edit)] if found}
     old = len(told)
     if old:
         print(f"edits: {old} of {len(edits)} were tried by an earlier run on this machine, and nothing that they stand on has changed", flush=True)
     batches = {}
     for crate in crates:
-        left = [it for it in edits if it.crate == crate and it not in told]
-        made, faults = batches_of(crate, left)
+        made, faults = batches_of(crate, [it for it in edits if it.crate == crate and it not in told])
         if made:
             batches[crate] = made
         told.update({edit: (BAD, why) for edit, why in faults.items()})
-    libraries = kit.Libraries(sources, sorted(batches))
-    printing, start = threading.Lock(), time.monotonic()
 
-    def work(crate):
-        with tempfile.TemporaryDirectory(prefix="edits-kept-") as kept:
-            for batch in batches[crate]:
-                found = tried(batch, libraries, kept)
-                with printing:
-                    for edit, (kind, text) in found.items():
-                        told[edit] = kind, text
-                        results.keep(edit, kind, text)
-                        print(f"edits: {edit.label}: {kind}: {text}", flush=True)
+    def tell(edit, kind, text):
+        told[edit] = kind, text
+        results.keep(edit, kind, text)
+        print(f"edits: {edit.label}: {kind}: {text}", flush=True)
 
-    with ThreadPoolExecutor(max(1, asked.lanes or kit.lanes())) as pool:
-        # The longest checks first.
-        for it in [pool.submit(work, crate) for crate in sorted(batches, key=lambda it: -sources.size_below(it))]:
-            it.result()
-    libraries.close()
+    try_all(batches, sources, asked, tell)
+    wanted, word = (MISSED, "proved as they stand") if asked.as_they_stand else (REFUSED, "refused")
     for edit in edits:
-        if told[edit][0] != REFUSED:
+        if told[edit][0] != wanted:
             print(f"edits: {edit.label}: {told[edit][0]}: {told[edit][1]}")
-    refused = sum(told[it][0] == REFUSED for it in edits)
+    well = sum(told[it][0] == wanted for it in edits)
     print(f"edits: {len(edits) - old} of {len(edits)} were tried in this run, in {sum(map(len, batches.values()))} checks and {time.monotonic() - start:.0f} s; the others are kept")
-    print(f"{refused} refused, {len(edits) - refused} not")
-    return 1 if refused < len(edits) or not edits else 0
+    print(f"{well} {word}, {len(edits) - well} not")
+    return 1 if well < len(edits) or not edits else 0
 
 
 if __name__ == "__main__":

@@ -1,0 +1,213 @@
+"""The functions of a crate as they stand in its files: what each is called, which lines and which proof are its own, and how it is left with its contract alone."""
+
+import re
+import shutil
+from functools import lru_cache
+from pathlib import Path
+
+HEAD = re.compile(r"(\s*)(?:pub(?:\([^)]*\))? )?(?:(?:const|unsafe|ghost) )*fn (\w+)")
+OWNER = re.compile(r"(?:unsafe )?impl\b|(?:pub(?:\([^)]*\))? )?trait\b")
+TRAIT = re.compile(r"(?:pub(?:\([^)]*\))? )?trait (\w+)")
+
+# A body that is of every type, and calls nothing.
+NO_BODY = "loop {}"
+# Its proof: the prover then takes the function by its contract, where it is told to check past holes.
+NO_PROOF = """use Rattle.{crate}.proofs.{path}.Statement.{{statement}}
+
+pub {name}_spec : {{M : Type 1}} → statement M
+{name}_spec = ?
+"""
+
+
+class Unit:
+    """What is proved as one: a function, or the cycle of functions that it is in."""
+
+    def __init__(self, file, module, names, cycle, is_of_trait, head, body):
+        # The head's first row and the rows that open and close the body count from 0, and a check's lines from 1.
+        self.file, self.cycle, self.is_of_trait, self.head, self.body = file, cycle, is_of_trait, head, body
+        self.path = "::".join([*module, *names])
+        # A closure of the function stands beside it in the module, below `fn`.
+        self.closures = "::".join([*module, "fn", *names])
+        above, _, name = self.path.rpartition("::")
+        # One that calls itself is a cycle of its own.
+        self.own_cycle = f"{above}::+{name}" if above else f"+{name}"
+        self.key = ("cycle", cycle) if cycle else ("fn", self.path)
+
+    def owns_line(self, file, line):
+        return file == self.file and self.head < line <= self.body[1] + 1
+
+    def owns_proof(self, file):
+        """Whether the file is one of this function's proof: below proofs/ the folders are named as its path is."""
+        folder = file[len("proofs/") :].rpartition("/")[0].replace("/", "::")
+        # A cycle of functions has one proof.
+        of_cycle = folder.rpartition("::")[2] == f"+{self.cycle}" or folder == self.own_cycle
+        return folder == self.path or of_cycle or f"{folder}::".startswith(f"{self.closures}::")
+
+    def owns_name(self, name):
+        """Whether a check's line on this name speaks of the function, or of a closure in it."""
+        return name == self.path or name.startswith(f"{self.closures}::")
+
+
+def without_brackets(text):
+    """The text without what stands between angle brackets, and those."""
+    while True:
+        less = re.sub(r"<[^<>]*>", "", text)
+        if less == text:
+            return text
+        text = less
+
+
+def type_word(text):
+    """The word that rattle makes of a type in a path: its last name, and those of its arguments."""
+    text = re.sub(r"'\w+\s*,?\s*", "", text.strip())
+    text = re.sub(r"<\s*>", "", text)
+    if text.startswith("&"):
+        return "Ref" + type_word(text[1:].replace("mut ", "Mut", 1))
+    return without_brackets(text).split("::")[-1].strip()
+
+
+def owner_of(header):
+    """What stands for an impl's type, or its type and trait, in a function's path."""
+    header = re.sub(r"\s+", " ", header).partition(" where ")[0].strip()
+    header = re.sub(r"^(unsafe )?impl\b\s*", "", header)
+    if header.startswith("<"):
+        depth = 0
+        for at, letter in enumerate(header):
+            depth += (letter == "<") - (letter == ">" and header[at - 1] != "-")
+            if not depth:
+                header = header[at + 1 :].strip()
+                break
+    trait, is_of_trait, of = header.partition(" for ")
+    if not is_of_trait:
+        return type_word(header)
+    inside = re.search(r"<(.*)>", trait)
+    arguments = "".join(type_word(it) for it in inside[1].split(",")) if inside else ""
+    return type_word(of) + type_word(trait) + arguments
+
+
+def module_of(file):
+    path = Path(file).with_suffix("").relative_to("src").as_posix()
+    return [] if path in ("lib", "main") else path.split("/")
+
+
+@lru_cache(maxsize=8)
+def homes(room):
+    """For the name of each struct and enum of the crate the files that have one: no edit moves a type to another file."""
+    found = {}
+    for file in sorted(room.glob("src/**/*.rt")):
+        for it in re.findall(r"(?m)^\s*(?:pub(?:\([^)]*\))? )?(?:struct|enum) (\w+)\b", file.read_text(encoding="utf-8")):
+            found.setdefault(it, set()).add(file.relative_to(room).as_posix())
+    return found
+
+
+def home_of(room, name, file):
+    """The module of the crate's type of this name: a type's own methods are named by that, and not by where they stand."""
+    found = homes(room).get(name, ())
+    return module_of(*found) if len(found) == 1 else module_of(file)
+
+
+def body_of(lines, head, indent):
+    """The rows that open and close the body of the function with this head, or None where it has none."""
+    for row in range(head, len(lines)):
+        # Clauses, and parameters on lines of their own, stand further in than the head does.
+        if not re.match(rf"{indent}\S", lines[row]):
+            continue
+        if lines[row].endswith("{}"):
+            return row, row
+        if lines[row].endswith("{"):
+            return row, next((it for it in range(row, len(lines)) if lines[it].startswith(indent + "}")), row)
+        if lines[row].endswith(";"):
+            return None
+    return None
+
+
+def impl_of(lines, head):
+    """The header of the impl or the trait that the function with this head stands in, or None."""
+    for row in range(head, -1, -1):
+        if OWNER.match(lines[row]):
+            return "\n".join(lines[row : head + 1]).partition("{")[0]
+    return None
+
+
+def cycle_of(lines, head):
+    """The cycle that the function with this head says it is in, or None."""
+    cycle = None
+    for row in range(head - 1, -1, -1):
+        line = lines[row].strip()
+        if not line.startswith(("#[", "//", "///")):
+            break
+        of = re.fullmatch(r"#\[cycle\((\w+)\)\]", line)
+        cycle = of[1] if of else cycle
+    return cycle
+
+
+def unit_at(room, file, text, at):
+    """The function of the file that has this place in its head or its body, or None."""
+    lines = text.split("\n")
+    row = text.count("\n", 0, at)
+    head = next((it for it in range(row, -1, -1) if HEAD.match(lines[it])), None)
+    if head is None:
+        return None
+    indent, name = HEAD.match(lines[head]).groups()
+    body = body_of(lines, head, indent)
+    if body is None or body[1] < row:
+        return None
+    module, names = module_of(file), [name]
+    header = impl_of(lines, head) if indent else None
+    trait = TRAIT.match(header or "")
+    if header:
+        owner = trait[1] if trait else owner_of(header)
+        if not trait and " for " not in without_brackets(header):
+            module = home_of(room, owner, file)
+        names.insert(0, owner)
+    return Unit(file, module, names, cycle_of(lines, head), trait is not None, head, body)
+
+
+def units_of(room, path, text):
+    """The functions of the file."""
+    found = [unit_at(room, path, text, it.end()) for it in re.finditer(rf"(?m)^{HEAD.pattern}", text)]
+    return [it for it in found if it]
+
+
+def unit_named(room, name):
+    """The function of this path in the crate."""
+    for file in sorted(room.glob("src/**/*.rt")):
+        for unit in units_of(room, file.relative_to(room).as_posix(), file.read_text(encoding="utf-8")):
+            if unit.path == name:
+                return unit
+    return None
+
+
+def leave_contracts(crate, room, units):
+    """Leaves each function of the copy with its contract alone, but these and what can't be left so.
+
+    A function's proof rests on the contracts of those that it calls, and on nothing else of them, so it is accepted or refused
+    as it would be beside their own bodies and proofs. The lines of the others stay where they are."""
+    keys = {it.key for it in units}
+    for file in sorted(room.glob("src/**/*.rt")):
+        path = file.relative_to(room).as_posix()
+        text = file.read_text(encoding="utf-8")
+        lines, end = text.split("\n"), -1
+        for unit in units_of(room, path, text):
+            # One proof says of a cycle that it ends, a method of a trait is proved for each type, and one inside a body goes with that.
+            if unit.head > end and not (unit.key in keys or unit.cycle or unit.is_of_trait):
+                leave_contract(crate, room, unit, lines)
+            end = max(end, unit.body[1])
+        file.write_text("\n".join(lines), encoding="utf-8")
+
+
+def leave_contract(crate, room, unit, lines):
+    """Takes the body of the function from these lines of its file, and puts a hole in place of its proof."""
+    first, last = unit.body
+    if last > first + 1:
+        lines[first + 1 : last] = [NO_BODY] + [""] * (last - first - 2)
+    proofs = room / "proofs"
+    for path in (unit.closures, unit.own_cycle):
+        shutil.rmtree(proofs.joinpath(*path.split("::")), ignore_errors=True)
+    # Below the folder of a function stands what is of a module with its name.
+    own = proofs.joinpath(*unit.path.split("::"))
+    own.mkdir(parents=True, exist_ok=True)
+    for name in ("Invariants.antt", "Answers.antt"):
+        (own / name).unlink(missing_ok=True)
+    hole = NO_PROOF.format(crate=crate, path=unit.path.replace("::", "."), name=unit.path.rpartition("::")[2])
+    (own / "Proof.antt").write_text(hole, encoding="utf-8")
