@@ -40,7 +40,8 @@ class Builder:
             rt.rtlib.guarded()
             found = {it.name: it for it in rt.rtlib.crates_below(str(TOP))}
             self.held = rt.rtlib.lock([found[it] for it in names])
-            rt.share_work(True)
+            if hasattr(rt, "share_work"):  # what a library is built of is looked at once, where the kit can
+                rt.share_work(True)
             self.crates = found
         except Exception as error:
             print(f"build: this kit's rt builds one crate at a time ({type(error).__name__}: {error})", file=sys.stderr)
