@@ -1,4 +1,4 @@
--- What bytes say of a commit is one thing.
+-- What bytes say of a commit is one thing, and the beginning of a commit's file says none, but the whole.
 use Rattle.std.proofs.Common.{◌≡◌, ℕ, ◌<◌, ◌≤◌, ◌^◌, List, [], ◌∷◌, ◌++◌, length, true, false, cond, not, ◌&&◌, leb, refl, sym, ◌∙◌, ap, arith, append_assoc}
 use Rattle.std.specs.Prelude.{codes, IsTrue, ◌==◌}
 use Rattle.std.specs.List.{flat_map, list_all, AllByRecursion}
@@ -11,7 +11,7 @@ use Rattle.cat_base.proofs.Spellings.{u32_exact, u64_exact, bytes_exact}
 use Rattle.cat_model.specs.Text.{Text, same_text}
 use Rattle.cat_model.specs.Item.{Schema, IsSchema, Field, Kind, has_name_form, is_name_byte, is_field_name}
 use Rattle.cat_model.specs.Layout.{kind_byte, spelled_field, spelled_fields}
-use Rattle.cat_model.specs.CommitFile.{Version, ListedSegment, CommitFile, HasText, IsListed, IsCommitFile, version_byte, spelled_text, spelled_listed}
+use Rattle.cat_model.specs.CommitFile.{Version, ListedSegment, CommitFile, HasText, IsListed, IsCommitFile, SpellsCommit, spelled_commit, version_byte, spelled_text, spelled_listed}
 use Rattle.cat_model.specs.SegmentLaws.{CommitsAreToldByTheirBytes}
 use Rattle.cat_model.proofs.Lists.{All-weaken}
 
@@ -108,46 +108,77 @@ text_exact Version.first Version.second t u r s same h k e = absurd (omega (arit
 text_exact Version.second Version.first t u r s same h k e = absurd (omega (arith, same))
 text_exact Version.second Version.second t u r s same h k e = bytes_exact t u r s (omega (arith, h.short)) (omega (arith, k.short)) e
 
--- what stands behind the version
-behind : CommitFile → List ℕ
-behind c =
+-- what stands behind the version, with more bytes behind it
+listing : CommitFile → List ℕ → List ℕ
+listing c rest = spelled_u32 (length c.segments) ++ (flat_map spelled_listed c.segments ++ rest)
+
+behind : CommitFile → List ℕ → List ℕ
+behind c rest =
+    spelled_u64 c.generation ++ (spelled_u64 c.token ++ (spelled_u64 c.next ++ (spelled_text c.version c.text ++ (spelled_fields c.schema ++ listing c rest))))
+
+whole : CommitFile → List ℕ
+whole c =
     spelled_u64 c.generation ++ (spelled_u64 c.token ++ (spelled_u64 c.next ++ (spelled_text c.version c.text ++ (spelled_fields c.schema
     ++ (spelled_u32 (length c.segments) ++ flat_map spelled_listed c.segments)))))
 
-listing : CommitFile → List ℕ
-listing c = spelled_u32 (length c.segments) ++ flat_map spelled_listed c.segments
+append_six : (a b c d e f g r : List ℕ) → (a ++ (b ++ (c ++ (d ++ (e ++ (f ++ g)))))) ++ r ≡ a ++ (b ++ (c ++ (d ++ (e ++ (f ++ (g ++ r))))))
+append_six a b c d e f g r =
+    append_assoc a (b ++ (c ++ (d ++ (e ++ (f ++ g))))) r
+    ∙ ap (λ l. a ++ l) (append_assoc b (c ++ (d ++ (e ++ (f ++ g)))) r
+    ∙ ap (λ l. b ++ l) (append_assoc c (d ++ (e ++ (f ++ g))) r
+    ∙ ap (λ l. c ++ l) (append_assoc d (e ++ (f ++ g)) r
+    ∙ ap (λ l. d ++ l) (append_assoc e (f ++ g) r
+    ∙ ap (λ l. e ++ l) (append_assoc f g r)))))
 
-listing_exact : (a b : CommitFile) → IsCommitFile a → IsCommitFile b → listing a ≡ listing b → a.segments ≡ b.segments
+whole_and_more : (c : CommitFile) (rest : List ℕ) → whole c ++ rest ≡ behind c rest
+unfolding whole behind listing
+whole_and_more c rest =
+    append_six (spelled_u64 c.generation) (spelled_u64 c.token) (spelled_u64 c.next) (spelled_text c.version c.text) (spelled_fields c.schema)
+    (spelled_u32 (length c.segments)) (flat_map spelled_listed c.segments) rest
+
+listing_exact : (a b : CommitFile) (r s : List ℕ) → IsCommitFile a → IsCommitFile b → listing a r ≡ listing b s → (a.segments ≡ b.segments) × (r ≡ s)
 unfolding listing
-listing_exact a b ok ok' e =
-    let counts = u32_exact (length a.segments) (length b.segments) (flat_map spelled_listed a.segments) (flat_map spelled_listed b.segments) (omega (arith, ok.few)) (omega (arith, ok'.few)) e in
-    let ends : flat_map spelled_listed a.segments ++ [] ≡ flat_map spelled_listed b.segments ++ [] = ap (λ l. l ++ []) counts.1 in
-    (each_exact Fits spelled_listed listed_exact a.segments b.segments [] [] counts.0 (listed_fit a ok) (listed_fit b ok') ends).0
+listing_exact a b r s ok ok' e =
+    let counts = u32_exact (length a.segments) (length b.segments) (flat_map spelled_listed a.segments ++ r) (flat_map spelled_listed b.segments ++ s) (omega (arith, ok.few)) (omega (arith, ok'.few)) e in
+    each_exact Fits spelled_listed listed_exact a.segments b.segments r s counts.0 (listed_fit a ok) (listed_fit b ok') counts.1
 
-commit_exact : (a b : CommitFile) → IsCommitFile a → IsCommitFile b → version_byte a.version ≡ version_byte b.version → behind a ≡ behind b → a ≡ b
-unfolding behind listing
-commit_exact a b ok ok' same e =
+commit_exact : (a b : CommitFile) (r s : List ℕ) → IsCommitFile a → IsCommitFile b → version_byte a.version ≡ version_byte b.version → behind a r ≡ behind b s
+    → (a ≡ b) × (r ≡ s)
+unfolding behind
+commit_exact a b r s ok ok' same e =
     let versions : a.version ≡ b.version = version_exact a.version b.version same in
     let generations = u64_exact a.generation b.generation _ _ (omega (arith, ok.generation.1)) (omega (arith, ok'.generation.1)) e in
     let tokens = u64_exact a.token b.token _ _ (omega (arith, ok.token)) (omega (arith, ok'.token)) generations.1 in
     let nexts = u64_exact a.next b.next _ _ (omega (arith, ok.next_high)) (omega (arith, ok'.next_high)) tokens.1 in
     let texts = text_exact a.version b.version a.text b.text _ _ same ok.text ok'.text nexts.1 in
-    let schemas = fields_exact a.schema b.schema (listing a) (listing b) ok.schema ok'.schema texts.1 in
-    let segments : a.segments ≡ b.segments = listing_exact a b ok ok' schemas.1 in
-    λ i. record {
-      version = versions i;
-      generation = generations.0 i;
-      token = tokens.0 i;
-      next = nexts.0 i;
-      text = texts.0 i;
-      schema = schemas.0 i;
-      segments = segments i;
-    }
+    let schemas = fields_exact a.schema b.schema (listing a r) (listing b s) ok.schema ok'.schema texts.1 in
+    let segments = listing_exact a b r s ok ok' schemas.1 in (
+      λ i. record {
+        version = versions i;
+        generation = generations.0 i;
+        token = tokens.0 i;
+        next = nexts.0 i;
+        text = texts.0 i;
+        schema = schemas.0 i;
+        segments = segments.0 i;
+      },
+      segments.1,
+    )
+
+nothing_more : (l : List ℕ) → l ++ [] ≡ l
+nothing_more [] = refl
+nothing_more (x ∷ l) = ap (λ r. x ∷ r) (nothing_more l)
+
+-- A beginning of a commit's file that spells a commit is the whole file, and spells that commit.
+pub beginnings_are_whole : (bytes rest : List ℕ) (c d : CommitFile) → IsCommitFile c → SpellsCommit bytes d → bytes ++ rest ≡ spelled_commit c
+    → (d ≡ c) × (rest ≡ [])
+unfolding whole
+beginnings_are_whole bytes rest c d form spells e =
+    let both : codes "CSGM" ++ (version_byte d.version ∷ (whole d ++ rest)) ≡ codes "CSGM" ++ (version_byte c.version ∷ whole c) = sym (ap (λ b. b ++ rest) spells.spelled) ∙ e in
+    let same : version_byte d.version ≡ version_byte c.version = cc both in
+    let tails : whole d ++ rest ≡ whole c = cc both in
+    let ends : whole c ≡ whole c ++ [] = sym (nothing_more (whole c)) in
+    commit_exact d c rest [] spells.form form same (sym (whole_and_more d rest) ∙ tails ∙ ends ∙ whole_and_more c [])
 
 pub commits_are_told_by_their_bytes : CommitsAreToldByTheirBytes
-unfolding behind
-commits_are_told_by_their_bytes bytes a b one two =
-    let e : codes "CSGM" ++ (version_byte a.version ∷ behind a) ≡ codes "CSGM" ++ (version_byte b.version ∷ behind b) = sym one.spelled ∙ two.spelled in
-    let same : version_byte a.version ≡ version_byte b.version = cc e in
-    let rest : behind a ≡ behind b = cc e in
-    commit_exact a b one.form two.form same rest
+commits_are_told_by_their_bytes bytes a b one two = (beginnings_are_whole bytes [] b a two.form one (nothing_more bytes ∙ two.spelled)).0

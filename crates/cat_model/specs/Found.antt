@@ -1,8 +1,7 @@
 -- What is found of a call's catalogue afterwards: after a crash, or when the folder is opened again.
-use Rattle.std.specs.Prelude.{◌≡◌, ℕ, ◌<◌, List, [], ◌∷◌, ◌++◌, filter_map, Some, None, Ok, Err}
-use Rattle.std.specs.List.{AllByRecursion}
-use Rattle.cat_base.specs.declared.refusal.Refusal.{Refusal}
-use Rattle.cat_model.specs.Run.{Command, Exchange, Run, commit_by, commits, committed_at, newest_commit, text_under, writes}
+use Rattle.std.specs.Prelude.{◌≡◌, ℕ, ◌<◌, List, [], ◌∷◌, filter_map, Some, None, Ok}
+use Rattle.cat_model.specs.Run.{Run, commits, committed_at, newest_commit, text_under, writes}
+use Rattle.cat_model.specs.Promised.{IsRefusedCommit}
 use Rattle.cat_model.specs.Served.{exchange}
 use Rattle.cat_model.specs.Table.{CommitText, Opened, table}
 use Rattle.cat_model.specs.Talk.{HeldAsk, IsRead, IsTalk, Pair}
@@ -27,25 +26,14 @@ pub record FindsNewest (from : Opened) (run : Run) (found : Opened) : Type 0 whe
   pub reaches : committed_at from run generation ≡ Some found.start.token
   pub records : found.start.records ≡ table from.start (writes run) found.start.token
 
--- some COMMIT was refused, but not for its text, and none was answered OK after it
-pub record RefusedSince (run : Run) : Type 0 where
-  pub past : Run
-  pub here : Exchange
-  pub later : Run
-  pub split : run ≡ past ++ here ∷ later
-  pub text : Text
-  pub asked : here.line.command ≡ Command.commit (Ok text)
-  pub refusal : Refusal
-  pub refused : here.reply ≡ Err refusal
-  pub none : AllByRecursion (λ x. commit_by x.line.command x.reply ≡ None) later
-
--- It is found at a commit that is none of the run: its generation is above that of the run's newest one, if there is one. Some COMMIT was
--- refused, but not for its text, and none was answered OK after it.
+-- It is found at a commit that is none of the run: its generation is above that of the run's newest one, if there is one. It is that of a
+-- COMMIT that was refused, but not for its text, with none answered OK after it: it has that COMMIT's text; its token is the number of writes
+-- that were accepted before it; and its table is the run's at that token.
 pub record FindsRefused (from : Opened) (run : Run) (found : Opened) : Type 0 where
   pub commit : CommitText
   pub there : found.commit ≡ Some commit
   pub above : (g : ℕ) → newest_commit from run ≡ Some g → g < commit.generation
-  pub since : RefusedSince run
+  pub tried : IsRefusedCommit from run commit.text found.start.token found.start.records
 
 -- nothing is found, and nothing was committed
 pub record FindsNothing (from : Opened) (run : Run) (found : Opened) : Type 0 where

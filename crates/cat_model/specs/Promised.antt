@@ -1,10 +1,11 @@
 -- What a directory holds when serving ends: what the run promises of its tokens and its commits, also after a crash.
-use Rattle.std.specs.Prelude.{◌≡◌, ◌⊎◌, ℕ, ◌<◌, ◌≤◌, Bool, true, false, List, ◌++◌, length, count_by, Contains, Some, None, Ok, Err}
+use Rattle.std.specs.Prelude.{◌≡◌, ◌⊎◌, ℕ, ◌<◌, Bool, true, false, List, ◌∷◌, ◌++◌, Contains, Some, None, Ok, Err}
 use Rattle.std.specs.List.{AllByRecursion}
-use Rattle.cat_model.specs.Item.{Record}
+use Rattle.cat_model.specs.Item.{Record, Schema}
 use Rattle.cat_model.specs.Table.{Opened, table}
-use Rattle.cat_model.specs.Run.{Command, Reply, Run, commit_by, commits, committed_at, has, holds, is_kept, newest_commit, text_under, view_tokens, writes}
+use Rattle.cat_model.specs.Run.{Command, Exchange, Reply, Run, commit_by, commits, committed_at, has, holds, is_kept, newest_commit, now, text_under, view_tokens, writes}
 use Rattle.cat_model.specs.Files.{Name}
+use Rattle.cat_model.specs.Text.{Text}
 use Rattle.cat_model.specs.CommitFile.{CommitFile, commit_needs}
 use Rattle.cat_model.specs.View.{IsView, Leaf, View}
 use Rattle.cat_model.specs.Told.{DirectoryKind, FileContent, IsNewestTold, IsSettled, LeftByName, MayBeLeft, MayHave, TellsAlways, TellsNoCommit, ToldByName, told_of}
@@ -58,18 +59,27 @@ abbrev pub refuses_commit : Command → Reply → Bool
 refuses_commit (Command.commit (Ok text)) (Err e) = true
 refuses_commit _ _ = false
 
--- What is found of the run after a crash. Behind some place of it no COMMIT was answered OK; each that was refused there, but for its text,
--- tried one generation at most. The newest commit that is found is the run's newest, or one that was tried so; one is found where the run
--- has one; and once the files of commits past the run's newest are taken away, and its own is left, that one is found.
-pub record SurvivesCrash (may_leave : LeftByName) (from : Opened) (run : Run) : Type 0 where
+-- A COMMIT of the run was refused, but not for its text, and none was answered OK after it. It has this text, the token is the number of writes
+-- that were accepted before it, and the records are the run's table at that token.
+pub record IsRefusedCommit (from : Opened) (run : Run) (text : Text) (token : ℕ) (records : List Record) : Type 0 where
   pub past : Run
-  pub since : Run
-  pub split : run ≡ past ++ since
-  pub none : AllByRecursion (λ x. commit_by x.line.command x.reply ≡ None) since
-  pub tried : List ℕ
-  pub few : length tried ≤ count_by (λ x. refuses_commit x.line.command x.reply) since
+  pub here : Exchange
+  pub later : Run
+  pub split : run ≡ past ++ here ∷ later
+  pub asked : here.line.command ≡ Command.commit (Ok text)
+  pub refused : refuses_commit here.line.command here.reply ≡ true
+  pub none : AllByRecursion (λ x. commit_by x.line.command x.reply ≡ None) later
+  pub reaches : token ≡ now from.start past
+  pub shown : records ≡ table from.start (writes run) token
+
+-- What is found of the run after a crash. The newest commit that is found is the run's newest; or, whatever commit and table are held there,
+-- they are those of a COMMIT that was refused, with none answered OK after it. One is found where the run has one; and once the files of
+-- commits past the run's newest are taken away, and its own is left, that one is found.
+pub record SurvivesCrash (may_leave : LeftByName) (from : Opened) (run : Run) : Type 0 where
   pub found : (image : Name → FileContent) (g : ℕ) → MayBeLeft may_leave image → IsNewestTold (told_of image) g
-      → (newest_commit from run ≡ Some g) ⊎ Contains tried g
+      → (newest_commit from run ≡ Some g)
+      ⊎ ((schema : Schema) (commit : CommitFile) (records : List Record) → HoldsCommit (told_of image) schema g commit records
+      → IsRefusedCommit from run commit.text commit.token records)
   pub lost : (image : Name → FileContent) → MayBeLeft may_leave image → TellsNoCommit (told_of image) → newest_commit from run ≡ None
   pub mended : (g : ℕ) → newest_commit from run ≡ Some g → (image mended : Name → FileContent) → MayBeLeft may_leave image
       → mended (Name.commit g) ≡ image (Name.commit g) → ((h : ℕ) → g < h → mended (Name.commit h) ≡ None) → IsNewestTold (told_of mended) g
