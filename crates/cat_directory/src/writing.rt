@@ -3,7 +3,7 @@ ghost use Rattle.std.specs.Prelude.{◌≡◌, ◌≢◌, ◌⊎◌, Some, None,
 ghost use Rattle.cat_model.specs.cat_base.declared.refusal.Refusal.TheVariants.{Memory, Device};
 ghost use Rattle.cat_model.specs.Files.{IsFileName};
 ghost use Rattle.cat_directory.specs.Names.{name_of};
-ghost use Rattle.cat_directory.specs.Devices.{CountsWriting, IsSettled, NoMore, emptied, told_after, file_written};
+ghost use Rattle.cat_directory.specs.Devices.{CountsWriting, FileContent, IsSettled, NoMore, OrTorn, emptied, told_after, file_written};
 
 use crate::{Directory, FileName};
 use cat_model::cat_base::Refusal;
@@ -22,6 +22,8 @@ pub fn write_file<D: Directory>(
     requires form { IsFileName (name_of name) }
     ensures others { (q : FileName) → q ≢ name → D.bytes device.new q ≡ D.bytes device.old q }
     ensures crash { (q : FileName) → q ≢ name → NoMore (D.may_leave device.old q) (D.may_leave device.new q) }
+    ensures torn { (now : FileContent) → D.bytes device.old name ≡ Some now
+        → OrTorn bytes.now (D.may_leave device.old name) (D.may_leave device.new name) }
     ensures ok { OnOk result (D.bytes device.new name ≡ told_after (file_written bytes.now) (D.bytes device.old name)) }
     ensures memory { IfErr result (λ e. e ≡ Memory → (D.bytes device.new name ≡ D.bytes device.old name)
         ⊎ (D.bytes device.new name ≡ told_after emptied (D.bytes device.old name))) }
@@ -46,6 +48,8 @@ pub fn write_lasting<D: Directory>(
     requires form { IsFileName (name_of name) }
     ensures others { (q : FileName) → q ≢ name → D.bytes device.new q ≡ D.bytes device.old q }
     ensures crash { (q : FileName) → q ≢ name → NoMore (D.may_leave device.old q) (D.may_leave device.new q) }
+    ensures torn { (now : FileContent) → D.bytes device.old name ≡ Some now
+        → OrTorn bytes.now (D.may_leave device.old name) (D.may_leave device.new name) }
     ensures ok { OnOk result (D.bytes device.new name ≡ told_after (file_written bytes.now) (D.bytes device.old name)) }
     ensures lasts { OnOk result
         (IsSettled (told_after (file_written bytes.now) (D.bytes device.old name)) (D.may_leave device.new name)) }
