@@ -11,3 +11,8 @@ pub mod KeptCalls
 pub mod NeededFiles
 pub mod Numbered
 pub mod Held
+pub mod TriedHeld
+pub mod SameTable
+pub mod TriedFound
+pub mod Spared
+pub mod Refused

@@ -10,3 +10,6 @@ pub mod Views
 pub mod Committed
 pub mod Listed
 pub mod Opened
+pub mod Beginnings
+pub mod Tried
+pub mod Trials

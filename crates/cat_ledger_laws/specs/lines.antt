@@ -9,3 +9,4 @@ pub mod StopLaws
 pub mod StayLaws
 pub mod NeededLaws
 pub mod HeldLaws
+pub mod TriedLaws

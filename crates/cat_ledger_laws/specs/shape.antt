@@ -6,3 +6,4 @@ pub mod ViewLaws
 pub mod MergeLaws
 pub mod CommitLaws
 pub mod OpeningLaws
+pub mod Tried

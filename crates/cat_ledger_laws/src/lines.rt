@@ -25,7 +25,9 @@ pub use joining::{
     room_is_there, views_stand,
 };
 pub use needing::{
-    needed_files_stand, needed_names_stand, promised_are_held, promised_files_stand,
+    flushed_are_promised, lines_spare_taken, needed_files_stand, needed_names_stand,
+    promised_are_held, promised_files_stand, refused_are_found, stands_are_of_runs, tried_hold,
+    tried_tables_are_found,
 };
 pub use planning::{
     forced_fit, forces_begin, forces_rest, forces_wait, merges_are_done, merges_begin, merges_copy,

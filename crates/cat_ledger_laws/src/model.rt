@@ -2,6 +2,7 @@
 //! to make each call as `Calls` says; that its replies are those of a run then follows from `calls_keep_runs`.
 
 ghost use Rattle.cat_ledger_laws.specs.model.Laws.{CommitsNeedTheirNames, UsedMayBeNamed, CommitsMayBeWritten, SettledAreMerged, CallsKeepRuns, RefusalsStore, ViewsAreRead, PortionsAreRead, OpenedStore, EmptyAreFresh, SchemasStay, UsersAreCounted, KeptCommitsOpen, WholeAreViews, KeptMayStand, CallsAreSteps, SweepsSpare, EndsStore, MergesStore, CopiesStore, BegunStore, UnsnapsStore, CommitsStore, PrunesStore, RecordsStore, FlushesStore, WritesStore, FilesStay, HoldsAreApart, RefusalsChangeNoState, EndsChangeNoState, CopiesChangeNoState, BegunChangeNoState, OpenedAreFresh, SnapshotsAreGiven, SnapshotsAreTaken, CommitsAreKept, ViewsArePruned, ViewsAreRecorded, WritesAreWritten, FlushesChangeNoState, MergesChangeNoState};
+ghost use Rattle.cat_ledger_laws.specs.model.Taking.{CallsTakeOn};
 
 /// A merge that is installed leaves the table, each view and each commit as they were, whatever was
 /// deleted since it began.
@@ -262,4 +263,11 @@ pub fn commits_may_be_written()
 /// Lucene's `IndexWriter.commitMerge`.
 pub fn settled_are_merged()
     ensures { SettledAreMerged }
+{}
+
+/// No call gives a number of a segment or of a commit out twice, and a merge in the making keeps its number.
+///
+/// Lucene's `SegmentInfos.counter` and `SegmentInfos.getNextPendingGeneration`.
+pub fn calls_take_on()
+    ensures { CallsTakeOn }
 {}

@@ -4,6 +4,7 @@
 mod committing;
 mod merging;
 mod opening;
+mod trying;
 mod viewing;
 mod writing;
 
@@ -17,6 +18,10 @@ pub use merging::{
     installs_make, merges_find_their_window, windows_may_be_merged,
 };
 pub use opening::{empty_keep, empty_make, opened_keep, opened_make};
+pub use trying::{
+    beginnings_are_no_commits, making_is_apart, trials_stay, tried_are_found, tried_begin,
+    tried_stay,
+};
 pub use viewing::{
     holds_keep, holds_make, prunes_keep, prunes_make, records_keep, records_make, shapes_are_views,
     views_are_counted,
