@@ -13,7 +13,7 @@ use Rattle.cat_ledger_laws.proofs.model.Counted.{same_name_is}
 use Rattle.cat_ledger_laws.specs.shape.Ties.{ToldFiles, TouchesOnly}
 use Rattle.cat_ledger_laws.proofs.shape.Told.{same_again, file_of_name}
 use Rattle.cat_ledger_laws.specs.shape.Ties.{file_of}
-use Rattle.cat_commits.specs.writing.NewFiles.{NewBytes, names_of, IsWritten, CrashLeaves, NoMoreBut, AreSettled, ComesLast}
+use Rattle.cat_commits.specs.writing.NewFiles.{NewBytes, names_of, IsWritten, CrashLeaves, NoMoreBut, AreSettled, ComesLast, OnlyTorn}
 
 -- ---- refusals
 
@@ -217,3 +217,11 @@ last_settled names last c m all own q has = elim (or_either (same_file_name (nam
 pub untouched : (files : List NewBytes) (last : FileName) (names : List Name) (a b : ToldFiles) (l m : CrashLeaves) → has_name (name_of last) (names_of files) ≡ false → TouchesOnly (names_of files) a b
     → NoMoreBut (names_of files) l m → ComesLast last names a b l m
 untouched files last names a b l m not others crash = inl (record { told_same = others last not; left_same = crash last not })
+
+-- ---- a file that comes last
+
+-- a file that wasn't touched, and then is torn at most, is torn at most
+pub torn_last : (names : List Name) (q : FileName) (bytes : List ℕ) (told told' : ToldFiles) (left left' left'' : CrashLeaves) → has_name (name_of q) names ≡ false
+    → TouchesOnly names told told' → NoMoreBut names left left' → OnlyTorn q bytes told' left' left'' → OnlyTorn q bytes told left left''
+torn_last names q bytes told told' left left' left'' apart touches spared torn now is e after =
+    elim (torn now (touches q apart ∙ is) e after) [ inl before ↦ inl (spared q apart e before) | inr t ↦ inr t ]

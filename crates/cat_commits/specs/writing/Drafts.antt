@@ -1,5 +1,6 @@
 -- A commit that is ready to be written.
-use Rattle.std.specs.Prelude.{◌≡◌, ℕ, ◌==◌, true, false, cond, List, [], ◌∷◌, ◌++◌, map, filter}
+use Rattle.std.specs.Prelude.{◌≡◌, ◌⊎◌, ℕ, ◌==◌, true, false, cond, List, [], ◌∷◌, ◌++◌, map, filter}
+use Rattle.std.specs.List.{AllByRecursion}
 use Rattle.cat_model.specs.Files.{Name}
 use Rattle.cat_model.specs.LiveFile.{SpellsLive}
 use Rattle.cat_model.specs.CommitFile.{Version, CommitFile, SpellsCommit, commit_needs}
@@ -10,7 +11,7 @@ use Rattle.cat_ledger_laws.specs.shape.Shapes.{ListedLive}
 use Rattle.cat_ledger_laws.specs.shape.Ties.{ToldFiles, TellsBytes}
 use Rattle.cat_commits.specs.declared.writing.heading.Heading.{Heading}
 use Rattle.cat_commits.specs.writing.Entries.{listing_after}
-use Rattle.cat_commits.specs.writing.NewFiles.{NewBytes}
+use Rattle.cat_commits.specs.writing.NewFiles.{CrashLeaves, IsUntouched, NewBytes}
 use Rattle.cat_commits.specs.writing.Unsynced.{new_live, unsynced_in}
 
 -- the commit under the heading that lists this
@@ -77,3 +78,7 @@ pub record IsDrafted (d : Drafted) (own : NewBytes) (files : List NewBytes) (nam
 abbrev pub HasNewFile : ToldFiles → ℕ → ListedLive → Type 0
 HasNewFile told g x = x.file ≡ g
     → TellsBytes told (file.Live x.number g) (λ bytes. SpellsLive bytes (record { number = x.number; generation = g; live = x.live }))
+
+-- the own file of the commit of the generation is untouched until each new live file is told with the bytes that say its live set
+abbrev pub OwnComesBehind : ℕ → List ListedLive → ToldFiles → ToldFiles → CrashLeaves → CrashLeaves → Type 0
+OwnComesBehind g xs told told' left left' = IsUntouched (file.Commit g) told told' left left' ⊎ AllByRecursion (HasNewFile told' g) xs

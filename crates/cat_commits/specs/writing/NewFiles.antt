@@ -1,9 +1,9 @@
 -- Files that are to be written, and in which order they come to last.
-use Rattle.std.specs.Prelude.{◌≡◌, ◌⊎◌, true, false, List, map}
+use Rattle.std.specs.Prelude.{◌≡◌, ◌⊎◌, true, false, List, map, All, Some}
 use Rattle.cat_model.specs.Text.{Text}
 use Rattle.cat_model.specs.Files.{Name}
 use Rattle.cat_directory.specs.declared.name.FileName.{FileName}
-use Rattle.cat_directory.specs.Devices.{FileContent, NoMore, IsSettled, told_after, file_written}
+use Rattle.cat_directory.specs.Devices.{FileContent, NoMore, IsSettled, OrTorn, told_after, file_written}
 use Rattle.cat_directory.specs.Names.{name_of}
 use Rattle.cat_ledger_laws.specs.model.Users.{has_name}
 use Rattle.cat_ledger_laws.specs.shape.Ties.{ToldFiles}
@@ -41,3 +41,11 @@ pub record IsUntouched (q : FileName) (told told' : ToldFiles) (left left' : Cra
 -- the file is untouched until those of these names would outlast a loss of power
 abbrev pub ComesLast : FileName → List Name → ToldFiles → ToldFiles → CrashLeaves → CrashLeaves → Type 0
 ComesLast q names told told' left left' = IsUntouched q told told' left left' ⊎ AreSettled names told' left'
+
+-- the file is untouched until these files are told with their bytes
+abbrev pub ComesBehind : FileName → List NewBytes → ToldFiles → ToldFiles → CrashLeaves → CrashLeaves → Type 0
+ComesBehind q files told told' left left' = IsUntouched q told told' left left' ⊎ All (IsWritten told told') files
+
+-- Where the file was told, a crash may leave of it what it could have left, or a torn one, as it comes to have these bytes.
+abbrev pub OnlyTorn : FileName → Text → ToldFiles → CrashLeaves → CrashLeaves → Type 0
+OnlyTorn q bytes told left left' = (now : FileContent) → told q ≡ Some now → OrTorn bytes (left q) (left' q)

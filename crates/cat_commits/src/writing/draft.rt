@@ -121,15 +121,15 @@ impl Draft {
     ghost use Rattle.std.specs.List.{AllByRecursion};
     ghost use Rattle.cat_base.specs.declared.refusal.Refusal.TheVariants.{Memory, Device};
     ghost use Rattle.cat_model.specs.Files.{Name};
-    ghost use Rattle.cat_model.specs.CommitFile.{IsCommitFile, SpellsCommit, commit_needs};
+    ghost use Rattle.cat_model.specs.CommitFile.{IsCommitFile, SpellsCommit, commit_needs, spelled_commit};
     ghost use Rattle.cat_directory.specs.Devices.{CountsWriting};
     ghost use Rattle.cat_directory.specs.Names.{name_of};
     ghost use Rattle.cat_ledger_laws.specs.model.Users.{has_name};
     ghost use Rattle.cat_ledger_laws.specs.shape.Ties.{TouchesOnly, TellsBytes};
     ghost use Rattle.cat_commits.specs.writing.Entries.{listing_after};
-    ghost use Rattle.cat_commits.specs.writing.NewFiles.{NoMoreBut, AreSettled, ComesLast};
+    ghost use Rattle.cat_commits.specs.writing.NewFiles.{NoMoreBut, AreSettled, ComesLast, OnlyTorn};
     ghost use Rattle.cat_commits.specs.writing.Unsynced.{begun};
-    ghost use Rattle.cat_commits.specs.writing.Drafts.{HasNewFile, commit_listing, drafted};
+    ghost use Rattle.cat_commits.specs.writing.Drafts.{HasNewFile, OwnComesBehind, commit_listing, drafted};
 
     /// The commit under the heading that lists these leaves, after the one that lists this. Live sets are shared; the bytes of
     /// each new live file and of the commit's own file are made here, so that nothing but the device is asked for any more.
@@ -178,6 +178,10 @@ impl Draft {
         ensures lasts { OnOk result (AreSettled (Name.commit self.now.commit.generation ∷ self.now.unsynced)
             (D.bytes device.new) (D.may_leave device.new)) }
         ensures order { ComesLast (FileName.Commit self.now.commit.generation) self.now.unsynced (D.bytes device.old) (D.bytes device.new)
+            (D.may_leave device.old) (D.may_leave device.new) }
+        ensures torn { OnlyTorn (FileName.Commit self.now.commit.generation) (spelled_commit self.now.commit) (D.bytes device.old)
+            (D.may_leave device.old) (D.may_leave device.new) }
+        ensures behind { OwnComesBehind self.now.commit.generation self.now.listing (D.bytes device.old) (D.bytes device.new)
             (D.may_leave device.old) (D.may_leave device.new) }
         ensures refusal { IfErr result (λ e. (e ≡ Memory) ⊎ (e ≡ Device)) }
         ensures device { IfErr result (λ e. e ≡ Device → D.can_fail device.old

@@ -6,7 +6,7 @@ ghost use Rattle.cat_directory.specs.Devices.{CountsWriting, IsSettled, NoMore};
 ghost use Rattle.cat_directory.specs.Names.{name_of};
 ghost use Rattle.cat_ledger_laws.specs.model.Users.{has_name};
 ghost use Rattle.cat_ledger_laws.specs.shape.Ties.{TouchesOnly};
-ghost use Rattle.cat_commits.specs.writing.NewFiles.{names_of, IsWritten, NoMoreBut, AreSettled, ComesLast};
+ghost use Rattle.cat_commits.specs.writing.NewFiles.{names_of, IsWritten, NoMoreBut, AreSettled, ComesBehind, ComesLast, OnlyTorn};
 
 use cat_base::Refusal;
 use cat_directory::{Directory, FileName, write_file, write_lasting};
@@ -33,6 +33,7 @@ fn write_one<D: Directory>(device: &mut D, alloc: Global, file: &NewFile) -> Res
     requires form { IsFileName (name_of file.now.name) }
     ensures others { (q : FileName) → q ≢ file.now.name → D.bytes device.new q ≡ D.bytes device.old q }
     ensures crash { (q : FileName) → q ≢ file.now.name → NoMore (D.may_leave device.old q) (D.may_leave device.new q) }
+    ensures torn { OnlyTorn file.now.name file.now.bytes (D.bytes device.old) (D.may_leave device.old) (D.may_leave device.new) }
     ensures ok { OnOk result (IsWritten (D.bytes device.old) (D.bytes device.new) file.now) }
     ensures device { IfErr result (λ e. e ≡ Device → D.can_fail device.old) }
     ensures can { D.can_fail device.new → D.can_fail device.old }
@@ -46,6 +47,7 @@ fn write_last<D: Directory>(device: &mut D, alloc: Global, file: &NewFile) -> Re
     requires form { IsFileName (name_of file.now.name) }
     ensures others { (q : FileName) → q ≢ file.now.name → D.bytes device.new q ≡ D.bytes device.old q }
     ensures crash { (q : FileName) → q ≢ file.now.name → NoMore (D.may_leave device.old q) (D.may_leave device.new q) }
+    ensures torn { OnlyTorn file.now.name file.now.bytes (D.bytes device.old) (D.may_leave device.old) (D.may_leave device.new) }
     ensures ok { OnOk result (IsWritten (D.bytes device.old) (D.bytes device.new) file.now) }
     ensures lasts { OnOk result (IsSettled (D.bytes device.new file.now.name) (D.may_leave device.new file.now.name)) }
     ensures device { IfErr result (λ e. e ≡ Device → D.can_fail device.old) }
@@ -123,6 +125,9 @@ pub(crate) fn write_in_order<D: Directory>(
     ensures last { OnOk result (IsWritten (D.bytes device.old) (D.bytes device.new) last.now) }
     ensures lasts { OnOk result (AreSettled (name_of last.now.name ∷ map name_of unsynced.now) (D.bytes device.new) (D.may_leave device.new)) }
     ensures order { ComesLast last.now.name (map name_of unsynced.now) (D.bytes device.old) (D.bytes device.new)
+        (D.may_leave device.old) (D.may_leave device.new) }
+    ensures torn { OnlyTorn last.now.name last.now.bytes (D.bytes device.old) (D.may_leave device.old) (D.may_leave device.new) }
+    ensures behind { ComesBehind last.now.name files.now (D.bytes device.old) (D.bytes device.new)
         (D.may_leave device.old) (D.may_leave device.new) }
     ensures device { IfErr result (λ e. e ≡ Device → D.can_fail device.old
         ⊎ ((q : FileName) × (has_name (name_of q) (map name_of unsynced.now) ≡ true) × (has_name (name_of q) (names_of files.now) ≡ false)

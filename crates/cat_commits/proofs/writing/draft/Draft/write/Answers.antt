@@ -5,12 +5,14 @@ use Rattle.std.proofs.lemmas.Result.{on_ok_weaker, IfErr-weaker}
 use Rattle.cat_base.specs.declared.refusal.Refusal.TheVariants.{Device}
 use Rattle.cat_model.specs.Files.{Name, IsFileName}
 use Rattle.cat_directory.specs.declared.name.FileName.{FileName}
+use Rattle.cat_directory.specs.declared.name.FileName.TheVariants as file
 use Rattle.cat_directory.specs.Names.{name_of}
 use Rattle.cat_ledger_laws.specs.model.Users.{has_name, same_file_name}
 use Rattle.cat_ledger_laws.specs.shape.Ties.{TouchesOnly}
-use Rattle.cat_commits.specs.writing.NewFiles.{NewBytes, names_of, IsWritten, NoMoreBut, AreSettled}
+use Rattle.cat_commits.specs.writing.NewFiles.{IsUntouched, NewBytes, names_of, IsWritten, NoMoreBut, AreSettled, OnlyTorn}
+use Rattle.cat_model.specs.CommitFile.{spelled_commit}
 use Rattle.cat_commits.specs.writing.Unsynced.{begun}
-use Rattle.cat_commits.specs.writing.Drafts.{Drafted, HasNewFile}
+use Rattle.cat_commits.specs.writing.Drafts.{Drafted, HasNewFile, OwnComesBehind}
 use Rattle.cat_commits.proofs.writing.Drafting.{names_begun, own_named, all_formed, all_apart, own_apart, own_unsynced, names_new, all_told}
 use Rattle.cat_commits.proofs.writing.Writing.{none_of_both, or_none}
 use Rattle.cat_commits.proofs.writing.draft.Draft.write.Goals as goal
@@ -74,3 +76,24 @@ returns-clause-device g c =
           )
     ])
     c.write_in_order.ensures.device)
+
+pub returns-clause-behind : goal.returns-clause-behind
+returns-clause-behind g c =
+    let told = g.D.Holder.bytes c.args.device.now in
+    let told' = g.D.Holder.bytes c.write_in_order.new.device in
+    let left = g.D.Holder.may_leave c.args.device.now in
+    let left' = g.D.Holder.may_leave c.write_in_order.new.device in
+    subst (λ (s : Drafted). OwnComesBehind s.commit.generation s.listing told told' left left') c.self.view_is
+    (elim c.write_in_order.ensures.behind [
+      | inl same ↦ inl (subst (λ (q : FileName). IsUntouched q told told' left left') c.self.invariant.named same)
+      | inr all ↦ inr (all_told _ _ _ _ told told' c.self.invariant (subst (All (IsWritten told told')) c.deref.ensures.value all))
+    ])
+
+pub returns-clause-torn : goal.returns-clause-torn
+returns-clause-torn g c =
+    let told = g.D.Holder.bytes c.args.device.now in
+    let left = g.D.Holder.may_leave c.args.device.now in
+    let left' = g.D.Holder.may_leave c.write_in_order.new.device in
+    subst (λ (s : Drafted). OnlyTorn (file.Commit s.commit.generation) (spelled_commit s.commit) told left left') c.self.view_is
+    (subst (λ (q : FileName). OnlyTorn q (spelled_commit c.self.inside.commit) told left left') c.self.invariant.named
+    (subst (λ bytes. OnlyTorn c.self.inside.own.name bytes told left left') c.self.invariant.spelled.spelled c.write_in_order.ensures.torn))
