@@ -1,3 +1,4 @@
+pub mod Frame
 pub mod Said
 pub mod Judged
 pub mod Below

@@ -2,8 +2,8 @@
 ghost use Rattle.std.specs.Prelude.{◌≡◌, All, IfOk, IfErr, map};
 ghost use Rattle.std.specs.List.Sorted.{IsStrictlySortedBy};
 ghost use Rattle.cat_base.specs.declared.refusal.Refusal.TheVariants.{Device};
-ghost use Rattle.cat_directory.specs.Devices.{NoMore};
 ghost use Rattle.cat_directory.specs.Names.{name_cmp};
+ghost use Rattle.cat_check.specs.Frame.{OnlyReads};
 ghost use Rattle.cat_check.specs.Below.{AreOlder};
 ghost use Rattle.cat_check.specs.Judged.{IsJudged};
 ghost use Rattle.cat_check.specs.Checked.{IsChecked, IsNewestReport};
@@ -35,9 +35,7 @@ fn newest_report<S: Shelf>(
     names: &[FileName],
 ) -> Result<Option<Report>, AllocError>
     ensures judged { IfOk result (IsNewestReport (S.bytes shelf.old) (S.can_fail shelf.old) names.now) }
-    ensures same { (q : FileName) → S.bytes shelf.new q ≡ S.bytes shelf.old q }
-    ensures crash { (q : FileName) → NoMore (S.may_leave shelf.old q) (S.may_leave shelf.new q) }
-    ensures can { S.can_fail shelf.new → S.can_fail shelf.old }
+    ensures frame { OnlyReads S.bytes S.may_leave S.can_fail shelf.old shelf.new }
 {
     let Some(generation) = newest_commit(names) else {
         return Ok(None);
@@ -54,9 +52,7 @@ fn reports_of<S: Shelf>(
 ) -> Result<Vec<Report>, AllocError>
     ensures each { IfOk result (λ v. map (λ r. r.generation) v.items ≡ generations.now) }
     ensures judged { IfOk result (λ v. All (λ r. IsJudged (S.bytes shelf.old) (S.can_fail shelf.old) r.generation r.verdict) v.items) }
-    ensures same { (q : FileName) → S.bytes shelf.new q ≡ S.bytes shelf.old q }
-    ensures crash { (q : FileName) → NoMore (S.may_leave shelf.old q) (S.may_leave shelf.new q) }
-    ensures can { S.can_fail shelf.new → S.can_fail shelf.old }
+    ensures frame { OnlyReads S.bytes S.may_leave S.can_fail shelf.old shelf.new }
 {
     let mut reports = Vec::new(alloc);
     for generation in generations {
@@ -74,9 +70,7 @@ fn older_reports<S: Shelf>(
 ) -> Result<Vec<Report>, AllocError>
     ensures older { IfOk result (λ v. IsStrictlySortedBy name_cmp names.now → AreOlder names.now (map (λ r. r.generation) v.items)) }
     ensures judged { IfOk result (λ v. All (λ r. IsJudged (S.bytes shelf.old) (S.can_fail shelf.old) r.generation r.verdict) v.items) }
-    ensures same { (q : FileName) → S.bytes shelf.new q ≡ S.bytes shelf.old q }
-    ensures crash { (q : FileName) → NoMore (S.may_leave shelf.old q) (S.may_leave shelf.new q) }
-    ensures can { S.can_fail shelf.new → S.can_fail shelf.old }
+    ensures frame { OnlyReads S.bytes S.may_leave S.can_fail shelf.old shelf.new }
 {
     let bound = newest_commit(names).unwrap_or(0);
     let generations = commits_below(alloc, names, bound)?;
@@ -109,9 +103,7 @@ fn unnamed_by(
 pub fn check<D: Directory + Shelf>(alloc: Global, device: &mut D) -> Result<Checked, Refusal>
     ensures ok { IfOk result (IsChecked (D.bytes device.old) (D.can_fail device.old)) }
     ensures device { IfErr result (λ e. e ≡ Device → D.can_fail device.old) }
-    ensures same { (q : FileName) → D.bytes device.new q ≡ D.bytes device.old q }
-    ensures crash { (q : FileName) → NoMore (D.may_leave device.old q) (D.may_leave device.new q) }
-    ensures can { D.can_fail device.new → D.can_fail device.old }
+    ensures frame { OnlyReads D.bytes D.may_leave D.can_fail device.old device.new }
 {
     let names = device.names(alloc)?;
     let newest = newest_report(alloc, device, &names)?;

@@ -1,6 +1,5 @@
 //! How much there is of a commit.
-ghost use Rattle.std.specs.Prelude.{◌≡◌};
-ghost use Rattle.cat_directory.specs.Devices.{NoMore};
+ghost use Rattle.cat_check.specs.Frame.{OnlyReads};
 
 use cat_commits::Leaf;
 use cat_directory::{FileName, Shelf};
@@ -26,9 +25,7 @@ pub(crate) fn counts_of(leaves: &[Leaf]) -> Counts {
 
 /// How many bytes those of the files have together that are there.
 pub(crate) fn bytes_in<S: Shelf>(shelf: &mut S, names: &[FileName]) -> u64
-    ensures same { (q : FileName) → S.bytes shelf.new q ≡ S.bytes shelf.old q }
-    ensures crash { (q : FileName) → NoMore (S.may_leave shelf.old q) (S.may_leave shelf.new q) }
-    ensures can { S.can_fail shelf.new → S.can_fail shelf.old }
+    ensures frame { OnlyReads S.bytes S.may_leave S.can_fail shelf.old shelf.new }
 {
     let mut bytes = 0u64;
     for name in names {

@@ -2,8 +2,9 @@
 ghost use Rattle.std.specs.Prelude.{◌≡◌, ◌≢◌, ◌⊎◌, IfOk, IfErr, OnOk, MatchBool};
 ghost use Rattle.cat_base.specs.declared.refusal.Refusal.TheVariants.{Device};
 ghost use Rattle.cat_model.specs.CommitFile.{CommitFile};
-ghost use Rattle.cat_directory.specs.Devices.{IsSettled, NoMore, removed, told_after};
+ghost use Rattle.cat_directory.specs.Devices.{IsSettled, removed, told_after};
 ghost use Rattle.cat_ledger_laws.specs.shape.OpeningLaws.{MayHold};
+ghost use Rattle.cat_check.specs.Frame.{OnlyReads};
 ghost use Rattle.cat_check.specs.Said.{SaysCommit, IsTorn};
 ghost use Rattle.cat_check.specs.Judged.{IsLost, IsCommitWhole};
 ghost use Rattle.cat_check.specs.Standing.{IsDroppable, IsDropped, IsStanding, StandsSo};
@@ -36,9 +37,7 @@ fn is_torn<S: Shelf>(alloc: Global, shelf: &mut S, generation: Generation) -> Re
     ensures ok { IfOk result (λ torn. MatchBool torn (IsTorn (S.bytes shelf.old) generation)
         ((c : CommitFile) × SaysCommit (MayHold (S.bytes shelf.old)) generation c)) }
     ensures device { IfErr result (λ e. e ≡ Device → S.can_fail shelf.old) }
-    ensures same { (q : FileName) → S.bytes shelf.new q ≡ S.bytes shelf.old q }
-    ensures crash { (q : FileName) → NoMore (S.may_leave shelf.old q) (S.may_leave shelf.new q) }
-    ensures can { S.can_fail shelf.new → S.can_fail shelf.old }
+    ensures frame { OnlyReads S.bytes S.may_leave S.can_fail shelf.old shelf.new }
 {
     match read_said(alloc, shelf, generation) {
         Ok(_) => Ok(false),
@@ -51,9 +50,7 @@ fn is_torn<S: Shelf>(alloc: Global, shelf: &mut S, generation: Generation) -> Re
 fn is_whole<S: Shelf>(alloc: Global, shelf: &mut S, generation: Generation) -> Result<bool, Refusal>
     ensures ok { IfOk result (λ whole. MatchBool whole (IsCommitWhole (S.bytes shelf.old) generation) (IsLost (S.bytes shelf.old) generation)) }
     ensures device { IfErr result (λ e. e ≡ Device → S.can_fail shelf.old) }
-    ensures same { (q : FileName) → S.bytes shelf.new q ≡ S.bytes shelf.old q }
-    ensures crash { (q : FileName) → NoMore (S.may_leave shelf.old q) (S.may_leave shelf.new q) }
-    ensures can { S.can_fail shelf.new → S.can_fail shelf.old }
+    ensures frame { OnlyReads S.bytes S.may_leave S.can_fail shelf.old shelf.new }
 {
     let commit = match read_said(alloc, shelf, generation) {
         Ok(commit) => commit,
@@ -75,9 +72,7 @@ fn standing_of<S: Shelf>(
 ) -> Result<Standing, Refusal>
     ensures ok { IfOk result (StandsSo (S.bytes shelf.old) names.now) }
     ensures device { IfErr result (λ e. e ≡ Device → S.can_fail shelf.old) }
-    ensures same { (q : FileName) → S.bytes shelf.new q ≡ S.bytes shelf.old q }
-    ensures crash { (q : FileName) → NoMore (S.may_leave shelf.old q) (S.may_leave shelf.new q) }
-    ensures can { S.can_fail shelf.new → S.can_fail shelf.old }
+    ensures frame { OnlyReads S.bytes S.may_leave S.can_fail shelf.old shelf.new }
 {
     let Some(newest) = newest_commit(names) else {
         return Ok(Standing::Empty);
@@ -103,9 +98,7 @@ pub fn find_standing<D: Directory + Shelf>(
 ) -> Result<Standing, Refusal>
     ensures ok { IfOk result (IsStanding (D.bytes device.old)) }
     ensures device { IfErr result (λ e. e ≡ Device → D.can_fail device.old) }
-    ensures same { (q : FileName) → D.bytes device.new q ≡ D.bytes device.old q }
-    ensures crash { (q : FileName) → NoMore (D.may_leave device.old q) (D.may_leave device.new q) }
-    ensures can { D.can_fail device.new → D.can_fail device.old }
+    ensures frame { OnlyReads D.bytes D.may_leave D.can_fail device.old device.new }
 {
     let names = device.names(alloc)?;
     let standing = standing_of(alloc, device, &names)?;

@@ -1,6 +1,6 @@
 //! The second, finer look at a commit that isn't whole: which of its files breaks which rule.
 ghost use Rattle.std.specs.Prelude.{◌≡◌, ◌<◌, ◌^◌, length, vec_len, Ok, IfOk, IfSome};
-ghost use Rattle.cat_directory.specs.Devices.{NoMore};
+ghost use Rattle.cat_check.specs.Frame.{OnlyReads};
 
 use crate::fault::{Fault, Rule};
 use crate::look_together::{id_twice, out_of_order};
@@ -37,9 +37,7 @@ fn look_at_segment<S: Shelf>(
     schema: &Schema,
     number: SegNo,
 ) -> Result<Segment, Stop>
-    ensures same { (q : FileName) → S.bytes shelf.new q ≡ S.bytes shelf.old q }
-    ensures crash { (q : FileName) → NoMore (S.may_leave shelf.old q) (S.may_leave shelf.new q) }
-    ensures can { S.can_fail shelf.new → S.can_fail shelf.old }
+    ensures frame { OnlyReads S.bytes S.may_leave S.can_fail shelf.old shelf.new }
 {
     let answer = read_file(alloc, shelf, FileName::Segment(number));
     let bytes = found(answer, Rule::Absent)?;
@@ -62,9 +60,7 @@ fn look_at_live_file<S: Shelf>(
     rows: usize,
 ) -> Result<Live, Stop>
     ensures long { IfOk result (λ live. length live ≡ rows) }
-    ensures same { (q : FileName) → S.bytes shelf.new q ≡ S.bytes shelf.old q }
-    ensures crash { (q : FileName) → NoMore (S.may_leave shelf.old q) (S.may_leave shelf.new q) }
-    ensures can { S.can_fail shelf.new → S.can_fail shelf.old }
+    ensures frame { OnlyReads S.bytes S.may_leave S.can_fail shelf.old shelf.new }
 {
     let answer = read_file(alloc, shelf, FileName::Live(number, generation));
     let bytes = found(answer, Rule::Absent)?;
@@ -87,9 +83,7 @@ fn sources_size(segment: &Segment) -> u64 {
 
 /// The file with the texts of the segment's items.
 fn look_at_sources<S: Shelf>(shelf: &mut S, segment: &Segment) -> Result<(), Stop>
-    ensures same { (q : FileName) → S.bytes shelf.new q ≡ S.bytes shelf.old q }
-    ensures crash { (q : FileName) → NoMore (S.may_leave shelf.old q) (S.may_leave shelf.new q) }
-    ensures can { S.can_fail shelf.new → S.can_fail shelf.old }
+    ensures frame { OnlyReads S.bytes S.may_leave S.can_fail shelf.old shelf.new }
 {
     let answer = shelf.size(FileName::Source(segment.number()));
     let size = found(answer, Rule::Absent)?;
@@ -127,9 +121,7 @@ fn look_at_live<S: Shelf>(
     faults: &mut Vec<Fault>,
 ) -> Result<Option<Live>, AllocError>
     requires { rows < 2 ^ 32 }
-    ensures same { (q : FileName) → S.bytes shelf.new q ≡ S.bytes shelf.old q }
-    ensures crash { (q : FileName) → NoMore (S.may_leave shelf.old q) (S.may_leave shelf.new q) }
-    ensures can { S.can_fail shelf.new → S.can_fail shelf.old }
+    ensures frame { OnlyReads S.bytes S.may_leave S.can_fail shelf.old shelf.new }
     ensures long { IfOk result (λ found. IfSome found (λ live. length live ≡ rows)) }
 {
     let Some(generation) = listed.live_file() else {
@@ -148,9 +140,7 @@ fn look_at_listed<S: Shelf>(
     listed: ListedSegment,
     faults: &mut Vec<Fault>,
 ) -> Result<Option<Leaf>, AllocError>
-    ensures same { (q : FileName) → S.bytes shelf.new q ≡ S.bytes shelf.old q }
-    ensures crash { (q : FileName) → NoMore (S.may_leave shelf.old q) (S.may_leave shelf.new q) }
-    ensures can { S.can_fail shelf.new → S.can_fail shelf.old }
+    ensures frame { OnlyReads S.bytes S.may_leave S.can_fail shelf.old shelf.new }
 {
     let number = listed.number();
     let looked = look_at_segment(alloc, shelf, schema, number);
@@ -175,9 +165,7 @@ fn look_at_segments<S: Shelf>(
     commit: &Commit,
     faults: &mut Vec<Fault>,
 ) -> Result<Vec<Leaf>, AllocError>
-    ensures same { (q : FileName) → S.bytes shelf.new q ≡ S.bytes shelf.old q }
-    ensures crash { (q : FileName) → NoMore (S.may_leave shelf.old q) (S.may_leave shelf.new q) }
-    ensures can { S.can_fail shelf.new → S.can_fail shelf.old }
+    ensures frame { OnlyReads S.bytes S.may_leave S.can_fail shelf.old shelf.new }
 {
     let mut leaves = Vec::new(alloc);
     for listed in &commit.segments {
@@ -213,9 +201,7 @@ pub(crate) fn look<S: Shelf>(
     generation: Generation,
 ) -> Result<Vec<Fault>, AllocError>
     ensures some { IfOk result (λ faults. 0 < vec_len faults) }
-    ensures same { (q : FileName) → S.bytes shelf.new q ≡ S.bytes shelf.old q }
-    ensures crash { (q : FileName) → NoMore (S.may_leave shelf.old q) (S.may_leave shelf.new q) }
-    ensures can { S.can_fail shelf.new → S.can_fail shelf.old }
+    ensures frame { OnlyReads S.bytes S.may_leave S.can_fail shelf.old shelf.new }
 {
     let mut faults = Vec::new(alloc);
     let file = FileName::Commit(generation);

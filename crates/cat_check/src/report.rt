@@ -1,7 +1,7 @@
 //! What is found of one commit.
 ghost use Rattle.std.specs.Prelude.{◌≡◌, IfOk};
-ghost use Rattle.cat_directory.specs.Devices.{NoMore};
 ghost use Rattle.cat_ledger_laws.specs.shape.OpeningLaws.{MayHold};
+ghost use Rattle.cat_check.specs.Frame.{OnlyReads};
 ghost use Rattle.cat_check.specs.Said.{SaysCommit, IsTorn};
 ghost use Rattle.cat_check.specs.Judged.{IsJudged};
 
@@ -35,9 +35,7 @@ fn report_said<S: Shelf>(
     requires { SaysCommit (MayHold (S.bytes shelf.old)) generation commit }
     ensures judged { IfOk result (λ r. IsJudged (S.bytes shelf.old) (S.can_fail shelf.old) generation r.verdict) }
     ensures generation { IfOk result (λ r. r.generation ≡ generation) }
-    ensures same { (q : FileName) → S.bytes shelf.new q ≡ S.bytes shelf.old q }
-    ensures crash { (q : FileName) → NoMore (S.may_leave shelf.old q) (S.may_leave shelf.new q) }
-    ensures can { S.can_fail shelf.new → S.can_fail shelf.old }
+    ensures frame { OnlyReads S.bytes S.may_leave S.can_fail shelf.old shelf.new }
 {
     let verdict = verdict_of(alloc, shelf, &commit, generation)?;
     let names = commit.names()?;
@@ -59,9 +57,7 @@ fn report_torn<S: Shelf>(
     requires { IsTorn (S.bytes shelf.old) generation }
     ensures judged { IfOk result (λ r. IsJudged (S.bytes shelf.old) (S.can_fail shelf.old) generation r.verdict) }
     ensures generation { IfOk result (λ r. r.generation ≡ generation) }
-    ensures same { (q : FileName) → S.bytes shelf.new q ≡ S.bytes shelf.old q }
-    ensures crash { (q : FileName) → NoMore (S.may_leave shelf.old q) (S.may_leave shelf.new q) }
-    ensures can { S.can_fail shelf.new → S.can_fail shelf.old }
+    ensures frame { OnlyReads S.bytes S.may_leave S.can_fail shelf.old shelf.new }
 {
     let file = FileName::Commit(generation);
     let bytes = bytes_in(shelf, &[file]);
@@ -84,9 +80,7 @@ pub fn report_of<S: Shelf>(
 ) -> Result<Report, AllocError>
     ensures judged { IfOk result (λ r. IsJudged (S.bytes shelf.old) (S.can_fail shelf.old) generation r.verdict) }
     ensures generation { IfOk result (λ r. r.generation ≡ generation) }
-    ensures same { (q : FileName) → S.bytes shelf.new q ≡ S.bytes shelf.old q }
-    ensures crash { (q : FileName) → NoMore (S.may_leave shelf.old q) (S.may_leave shelf.new q) }
-    ensures can { S.can_fail shelf.new → S.can_fail shelf.old }
+    ensures frame { OnlyReads S.bytes S.may_leave S.can_fail shelf.old shelf.new }
 {
     match read_said(alloc, shelf, generation) {
         Ok(commit) => report_said(alloc, shelf, commit, generation),

@@ -1,9 +1,9 @@
 //! What is judged of a commit.
 ghost use Rattle.std.specs.Prelude.{◌≡◌, IfOk, IfErr};
 ghost use Rattle.cat_base.specs.declared.refusal.Refusal.TheVariants.{Device, Damaged};
-ghost use Rattle.cat_directory.specs.Devices.{NoMore};
 ghost use Rattle.cat_ledger_laws.specs.model.Opening.{IsRestored};
 ghost use Rattle.cat_ledger_laws.specs.shape.OpeningLaws.{MayHold};
+ghost use Rattle.cat_check.specs.Frame.{OnlyReads};
 ghost use Rattle.cat_check.specs.Said.{SaysCommit};
 ghost use Rattle.cat_check.specs.Judged.{IsLost, IsJudged};
 
@@ -48,9 +48,7 @@ pub fn open_said<S: Shelf>(
     ensures ok { IfOk result (λ r. IsRestored (MayHold (S.bytes shelf.old)) r.commit.schema generation r) }
     ensures damaged { IfErr result (λ e. e ≡ Damaged → IsLost (S.bytes shelf.old) generation) }
     ensures device { IfErr result (λ e. e ≡ Device → S.can_fail shelf.old) }
-    ensures same { (q : FileName) → S.bytes shelf.new q ≡ S.bytes shelf.old q }
-    ensures crash { (q : FileName) → NoMore (S.may_leave shelf.old q) (S.may_leave shelf.new q) }
-    ensures can { S.can_fail shelf.new → S.can_fail shelf.old }
+    ensures frame { OnlyReads S.bytes S.may_leave S.can_fail shelf.old shelf.new }
 {
     commits_are_told_by_their_bytes();
     match read_commit(alloc, shelf, fields(commit), generation) {
@@ -69,9 +67,7 @@ pub(crate) fn verdict_of<S: Shelf>(
 ) -> Result<Verdict, AllocError>
     requires { SaysCommit (MayHold (S.bytes shelf.old)) generation commit.now }
     ensures judged { IfOk result (IsJudged (S.bytes shelf.old) (S.can_fail shelf.old) generation) }
-    ensures same { (q : FileName) → S.bytes shelf.new q ≡ S.bytes shelf.old q }
-    ensures crash { (q : FileName) → NoMore (S.may_leave shelf.old q) (S.may_leave shelf.new q) }
-    ensures can { S.can_fail shelf.new → S.can_fail shelf.old }
+    ensures frame { OnlyReads S.bytes S.may_leave S.can_fail shelf.old shelf.new }
 {
     match open_said(alloc, shelf, commit, generation) {
         Ok(restored) => Ok(Verdict::Whole(counts_of(&restored.leaves))),

@@ -1,7 +1,6 @@
 use Rattle.std.proofs.Common.{◌≡◌, take}
 use Rattle.std.specs.Prelude.{All, map}
-use Rattle.cat_directory.specs.declared.name.FileName.{FileName}
-use Rattle.cat_directory.specs.Devices.{NoMore}
+use Rattle.cat_check.specs.Frame.{OnlyReads}
 use Rattle.cat_check.specs.Judged.{IsJudged}
 use Rattle.cat_check.specs.declared.report.Report.{Report}
 use Rattle.cat_check.proofs.checked.reports_of.Given as goal
@@ -10,7 +9,5 @@ abbrev pub invariant-loop-generation : goal.invariant-loop-generation
 invariant-loop-generation g l = record {
   each : map (λ (r : Report). r.generation) l.reports.items ≡ take l.generation-index l.generations;
   judged : All (λ r. IsJudged (g.S.Holder.bytes l.fn.shelf) (g.S.Holder.can_fail l.fn.shelf) r.generation r.verdict) l.reports.items;
-  same : (q : FileName) → g.S.Holder.bytes l.shelf q ≡ g.S.Holder.bytes l.fn.shelf q;
-  crash : (q : FileName) → NoMore (g.S.Holder.may_leave l.fn.shelf q) (g.S.Holder.may_leave l.shelf q);
-  can : g.S.Holder.can_fail l.shelf → g.S.Holder.can_fail l.fn.shelf;
+  frame : OnlyReads g.S.Holder.bytes g.S.Holder.may_leave g.S.Holder.can_fail l.fn.shelf l.shelf;
 }

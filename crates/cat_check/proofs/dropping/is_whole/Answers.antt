@@ -1,8 +1,6 @@
-use Rattle.std.proofs.Common.{subst}
-use Rattle.cat_ledger_laws.specs.shape.Ties.{ToldFiles}
-use Rattle.cat_commits.proofs.reading.Parts.{as_one}
 use Rattle.cat_check.specs.Judged.{IsLost}
 use Rattle.cat_check.proofs.Agreeing.{lost_if_torn}
+use Rattle.cat_check.proofs.Frame.{so_before}
 use Rattle.cat_check.proofs.dropping.is_whole.Goals as goal
 
 pub returns-in-Err-Damaged-clause-ok : goal.returns-in-Err-Damaged-clause-ok
@@ -10,5 +8,4 @@ returns-in-Err-Damaged-clause-ok g c = lost_if_torn (g.S.Holder.bytes c.args.she
 
 pub returns-in-Err-Damaged-open_said-clause-ok : goal.returns-in-Err-Damaged-open_said-clause-ok
 returns-in-Err-Damaged-open_said-clause-ok g c =
-    subst (λ (t : ToldFiles). IsLost t c.args.generation) (as_one (g.S.Holder.bytes c.args.shelf.now) (g.S.Holder.bytes c.read_said.new.shelf) c.in-Ok.ensures.same)
-    (c.in-Err-Damaged-open_said.ensures.damaged c.in-Err-Damaged-open_said.field-0-is)
+    so_before (λ t. IsLost t c.args.generation) c.in-Ok.ensures.frame (c.in-Err-Damaged-open_said.ensures.damaged c.in-Err-Damaged-open_said.field-0-is)

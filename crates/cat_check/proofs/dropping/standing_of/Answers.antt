@@ -1,7 +1,5 @@
-use Rattle.std.proofs.Common.{subst}
-use Rattle.cat_ledger_laws.specs.shape.Ties.{ToldFiles}
-use Rattle.cat_commits.proofs.reading.Parts.{as_one}
 use Rattle.cat_check.specs.Judged.{IsLost}
+use Rattle.cat_check.proofs.Frame.{so_before}
 use Rattle.cat_check.proofs.Before.{if_true, if_false}
 use Rattle.cat_check.proofs.dropping.standing_of.Goals as goal
 
@@ -10,6 +8,5 @@ returns-then-not-whole-clause-ok g c = (
   c.in-Some.ensures,
   if_true c.in_ok-torn.torn _ _ c.if-not-torn.false c.in_ok-torn.ensures.ok,
   c.in-Some-commit_below.ensures,
-  subst (λ (t : ToldFiles). IsLost t c.in-Some-commit_below.below) (as_one (g.S.Holder.bytes c.args.shelf.now) (g.S.Holder.bytes c.is_torn.new.shelf) c.in_ok-torn.ensures.same)
-      (if_false c.in_ok-whole.whole _ _ c.if-not-whole.true c.in_ok-whole.ensures.ok),
+  so_before (λ t. IsLost t c.in-Some-commit_below.below) c.in_ok-torn.ensures.frame (if_false c.in_ok-whole.whole _ _ c.if-not-whole.true c.in_ok-whole.ensures.ok),
 )
