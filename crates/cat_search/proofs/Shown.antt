@@ -1,14 +1,13 @@
 -- An answer to a FIND asks for no source, so over the records that a view shows it is the answer over its bare_record rows.
-use Rattle.std.proofs.Common.{◌≡◌, ℕ, min, List, [], ◌∷◌, length, map, filter, Bool, cond, ltb, Option, Some, None, option_map, find, ◌&&◌, ◌||◌, ◌==◌, Result, Ok, Err, IfErr, refl, sym, ap, ◌∙◌}
+use Rattle.std.proofs.Common.{◌≡◌, ℕ, min, List, [], ◌∷◌, length, map, filter, Bool, cond, ltb, Option, Some, None, option_map, find, ◌&&◌, ◌||◌, ◌==◌, Ok, Err, refl, sym, ap, ◌∙◌}
 use Rattle.std.specs.Prelude.{filter_map, count_by, replicate}
 use Rattle.std.specs.List.{list_any, cons_option, range_with_len}
 use Rattle.std.proofs.lemmas.List.{length-map, length-replicate}
 use Rattle.std.proofs.lemmas.List.Sums.{length-filter}
-use Rattle.cat_base.specs.declared.refusal.Refusal.{Refusal}
 use Rattle.cat_base.specs.declared.refusal.Refusal.TheVariants.{Count, SortField, Mark}
 use Rattle.cat_model.specs.Answer.{Read, Found, answer, can_sort, has_mark}
 use Rattle.cat_model.specs.Item.{Item, Record, Schema}
-use Rattle.cat_model.specs.Page.{Sort, Page, Entry, key, hits, before, ranked, first_ranked, rest, page_of}
+use Rattle.cat_model.specs.Page.{Sort, Entry, key, hits, before, ranked, first_ranked, rest, page_of}
 use Rattle.cat_model.specs.Query.{Query, Primary, obeys, supports, obeyed, supported, primary_matches, matches}
 use Rattle.cat_model.specs.View.{Row, View, Shows, row_of, rows_in}
 use Rattle.cat_search.specs.Pages.{answer_where, as_found}
@@ -131,11 +130,6 @@ answers_shown view q s m n rs shows =
     sym (answer_alike view.schema rs q s m n)
     ∙ ap (λ ts. answer view.schema ts (Read.find n s m (Ok q))) rows
     ∙ sym (pages_answer_finds view.schema (map bare_record (rows_in view)) q s m n)
-
--- a refusal that is due of the one is due of the other
-pub due_shown : (P : Refusal → Type 0) (r : Result Page Refusal) → IfErr r P → IfErr (as_found r) P
-due_shown P (Ok p) h = tt
-due_shown P (Err e) h = h
 
 -- ---- records with these rows
 

@@ -1,31 +1,34 @@
 -- The page that a pass over segments puts together is the page over the view's bare_record rows.
-use Rattle.std.proofs.Common.{◌≡◌, ℕ, ◌<◌, ◌≤◌, List, length, map, filter, take, AllPairs, true, Option, Some, None, option_map, find, ◌==◌, Result, Ok, Err, IfOk, IfErr, refl, sym, ap, ◌∙◌, subst}
+use Rattle.std.proofs.Common.{◌≡◌, ℕ, ◌<◌, ◌≤◌, Bool, cond, false, List, length, map, filter, take, AllPairs, true, Option, Some, None, option_map, find, ◌==◌, Result, Ok, Err, IfErr, refl, sym, ap, ◌∙◌, subst}
+use Rattle.std.specs.Prelude.{IsErr, IsErrAnd}
 use Rattle.std.specs.List.{flat_map}
+use Rattle.std.proofs.lemmas.Bool.{le-ltb}
 use Rattle.std.proofs.lemmas.List.{length-map}
 use Rattle.cat_base.specs.declared.refusal.Refusal.{Refusal}
-use Rattle.cat_base.specs.declared.refusal.Refusal.TheVariants.{Memory}
-use Rattle.cat_model.specs.Answer.{Found, can_sort, has_mark}
-use Rattle.cat_model.specs.Item.{Record}
+use Rattle.cat_base.specs.declared.refusal.Refusal.TheVariants.{Mark}
+use Rattle.cat_model.specs.Answer.{answer, can_sort, has_mark}
+use Rattle.cat_model.specs.Item.{Item, Record, Schema}
 use Rattle.cat_model.specs.Limits.{page_limit}
 use Rattle.cat_model.specs.Page.{Sort, Page, Entry}
 use Rattle.cat_model.specs.Query.{Query, matches}
 use Rattle.cat_model.specs.Ranks.{sorted}
 use Rattle.cat_model.specs.View.{Row, Leaf, View, IsView, Shows, live_rows, rows_in, row_matches}
 use Rattle.cat_model.proofs.Places.{each_pair, all_pairs}
-use Rattle.cat_query.specs.View.{query_of}
 use Rattle.cat_search.specs.declared.ask.Ask.{Ask}
+use Rattle.cat_search.specs.declared.ask.Wanted.{Wanted}
 use Rattle.cat_search.specs.declared.sort.Order.{Order}
 use Rattle.cat_search.specs.declared.sort.Order.TheVariants as order
 use Rattle.cat_search.specs.Standings.{HitStanding, standing_before, entry_shown}
-use Rattle.cat_search.specs.Asks.{page_to}
-use Rattle.cat_search.specs.Pages.{answer_where, as_found, behind, hits_where}
+use Rattle.cat_search.specs.Asks.{first_shown, page_to, read_of}
+use Rattle.cat_search.specs.Candidates.{mark_standing}
+use Rattle.cat_search.specs.Pages.{as_found, behind, hits_where, page_where}
 use Rattle.cat_search.specs.Sorts.{IsOrderOf, sort_in, sort_of}
-use Rattle.cat_search.specs.Views.{IsAnswerTo, Prepared, answer_over}
+use Rattle.cat_search.specs.Views.{IsWantedOf, page_in}
 use Rattle.cat_search.specs.Rows.{bare_record, hits_in, mark_in_rows, row_standing}
 use Rattle.cat_search.proofs.Defined.{answered_by, named_standing, named_mark, filter-map, map_map, each_pair-map}
 use Rattle.cat_views.proofs.Selected.{Pairs-pieces}
 use Rattle.cat_search.proofs.Marks.{find-map}
-use Rattle.cat_search.proofs.Shown.{answers_shown, due_shown}
+use Rattle.cat_search.proofs.Shown.{answers_shown}
 
 -- the numbers of live rows rise
 pub live_rise : (view : View) → IsView view → (ls : List Leaf) → ls ≡ view.leaves → AllPairs (λ a b. a.number < b.number) (flat_map live_rows ls)
@@ -56,41 +59,85 @@ module _ (view : View) (s : Sort) (o : Order) (is : IsOrderOf view.schema s o) w
 hits-are : (q : Query) (rows : List Row) → hits_where (matches q) (map bare_record rows) ≡ map bare_record (filter (row_matches q) rows)
 hits-are q rows = filter-map (λ r. matches q r.item) bare_record rows
 
--- the answer over the live rows
-pub page_answered : (view : View) (q : Query) (s : Sort) (m : Option ℕ) (n total : ℕ) (o : Order) (ls : List Leaf) (mark : Option HitStanding) (entries : List Entry)
-    → ls ≡ view.leaves → IsView view → n ≤ page_limit → IsOrderOf view.schema s o → can_sort view.schema s ≡ true
-    → mark ≡ mark_in_rows o (flat_map live_rows ls) m → has_mark (map bare_record (flat_map live_rows ls)) m ≡ true
-    → total ≡ length (hits_in ls q)
-    → entries ≡ map entry_shown (take n (sorted standing_before (behind mark (map (row_standing o) (hits_in ls q)))))
-    → answer_where view.schema (map bare_record (rows_in view)) (matches q) s m n ≡ Ok (record { total = total; entries = entries })
-page_answered view q s m n total o ls mark entries same v few is sorts found has t e =
-    let rows : List Row = flat_map live_rows ls in
-    let shown = λ (k : Option HitStanding) (ps : List HitStanding). map entry_shown (take n (sorted standing_before (behind k ps))) in
-    let hits : List Row = hits_in ls q in
-    let standing : entries ≡ shown (named_mark s (map bare_record rows) m) (map (named_standing s) (hits_where (matches q) (map bare_record rows))) =
-    e ∙ ap (λ w. shown w (map (row_standing o) hits)) (found ∙ mark-is view s o is rows m)
-    ∙ ap (shown (named_mark s (map bare_record rows) m)) (standings-are view s o is hits ∙ ap (map (named_standing s)) (sym (hits-are q rows))) in
-    let count : total ≡ length (hits_where (matches q) (map bare_record rows)) = t ∙ sym (length-map hits bare_record) ∙ ap length (sym (hits-are q rows)) in
-    let rises = each_pair-map bare_record (λ a b. a.number < b.number) rows (each_pair (λ a b. a.number < b.number) rows (live_rise view v ls same)) in
-    subst (λ ks. answer_where view.schema (map bare_record (flat_map live_rows ks)) (matches q) s m n ≡ Ok (record { total = total; entries = entries })) same
-    (answered_by (map bare_record rows) (matches q) s n rises view.schema m total entries few sorts has count standing)
+-- the page of what is wanted
+pub page_answered : (view : View) (q : Query) (ask : Ask) (w : Wanted) (total : ℕ) (ls : List Leaf) (entries : List Entry)
+    → IsWantedOf view ask w → ls ≡ view.leaves → IsView view
+    → total ≡ length (hits_in ls q) → entries ≡ first_shown w (map (row_standing w.order) (hits_in ls q))
+    → page_in view q ask ≡ Ok (record { total = total; entries = entries })
+page_answered view q ask w total ls entries is same v t e =
+    let s : Sort = sort_of ask.sort in
+    let rows : List Row = rows_in view in
+    let hits : List Row = hits_in view.leaves q in
+    let mark : Option HitStanding = named_mark s (map bare_record rows) ask.after in
+    let shown = λ (n : ℕ) (k : Option HitStanding) (ps : List HitStanding). map entry_shown (take n (sorted standing_before (behind k ps))) in
+    let standing : entries ≡ shown ask.count mark (map (named_standing s) (hits_where (matches q) (map bare_record rows))) =
+    e ∙ ap (λ ks. first_shown w (map (row_standing w.order) (hits_in ks q))) same
+    ∙ ap (λ n. shown n (mark_standing w.mark) (map (row_standing w.order) hits)) is.count
+    ∙ ap (λ k. shown ask.count k (map (row_standing w.order) hits)) (is.mark ∙ mark-is view s w.order is.order rows ask.after)
+    ∙ ap (shown ask.count mark) (standings-are view s w.order is.order hits ∙ ap (map (named_standing s)) (sym (hits-are q rows))) in
+    let count : total ≡ length (hits_where (matches q) (map bare_record rows)) =
+    t ∙ ap (λ ks. length (hits_in ks q)) same ∙ sym (length-map hits bare_record) ∙ ap length (sym (hits-are q rows)) in
+    let rises = each_pair-map bare_record (λ a b. a.number < b.number) rows (each_pair (λ a b. a.number < b.number) rows (live_rise view v view.leaves refl)) in
+    answered_by (map bare_record rows) (matches q) s ask.count rises view.schema ask.after total entries is.few is.sorts is.has count standing
 
 -- ---- over whatever records the view shows
 
-module _ (p : Prepared) (ask : Ask) where
-  abbrev pub over : Result Page Refusal
-  over = page_to p.view.schema (map bare_record (rows_in p.view)) (matches (query_of p.query)) ask
+-- so the ask is refused, whatever its query is
+abbrev pub IsRefused : View → Ask → Refusal → Type 0
+IsRefused view ask e = (q : Query) (rs : List Record) → Shows view rs → answer view.schema rs (read_of ask q) ≡ Err e
 
-  shown : (rs : List Record) → Shows p.view rs → answer_over p ask rs ≡ as_found over
-  shown rs h = answers_shown p.view (query_of p.query) (sort_of ask.sort) ask.after ask.count rs h
+module _ (view : View) (ask : Ask) where
+  pub shown : (q : Query) (rs : List Record) → Shows view rs → (r : Result Page Refusal) → page_in view q ask ≡ r → answer view.schema rs (read_of ask q) ≡ as_found r
+  shown q rs shows r is = answers_shown view q (sort_of ask.sort) ask.after ask.count rs shows ∙ ap as_found is
 
-  pub ok_shown : (r : Result Page Refusal) → IfOk r (λ g. over ≡ Ok g) → IfOk r (λ g. IsAnswerTo p ask (Ok (Found.page g)))
-  ok_shown (Ok g) e = λ rs h. shown rs h ∙ ap as_found e
-  ok_shown (Err x) e = tt
+  -- what is answered, where neither the count nor the sort is refused
+  judged : ask.count ≤ page_limit → can_sort view.schema (sort_of ask.sort) ≡ true → (q : Query) (b : Bool) → has_mark (map bare_record (rows_in view)) ask.after ≡ b
+      → page_in view q ask ≡ cond b (Ok (page_where (map bare_record (rows_in view)) (matches q) (sort_of ask.sort) ask.after ask.count)) (Err Mark)
+  judged few sorts q b has = rw (le-ltb page_limit ask.count few, sorts, has) refl
 
-  pub err_shown : (r : Result Page Refusal) → IfErr r (λ x. (x ≡ Memory → ⊥) → over ≡ Err x) → IfErr r (λ x. (x ≡ Memory → ⊥) → IsAnswerTo p ask (Err x))
-  err_shown (Ok g) e = tt
-  err_shown (Err x) e = λ w rs h. shown rs h ∙ ap as_found (e w)
+  module _ (schema : Schema) (same : schema ≡ view.schema) where
+    -- the count or the sort is refused
+    pub unresolved : (e : Refusal) → ((rs : List Record) (accepts : Item → Bool) → page_to schema rs accepts ask ≡ Err e) → IsRefused view ask e
+    unresolved e refused q rs shows =
+        shown q rs shows (Err e) (subst (λ f. page_to f (map bare_record (rows_in view)) (matches q) ask ≡ Err e) same (refused (map bare_record (rows_in view)) (matches q)))
 
-  pub due_of_shown : (r : Result Page Refusal) → IfErr over (λ x. r ≡ Err x) → (rs : List Record) → Shows p.view rs → IfErr (answer_over p ask rs) (λ x. r ≡ Err x)
-  due_of_shown r d rs h = subst (λ a. IfErr a (λ x. r ≡ Err x)) (sym (shown rs h)) (due_shown (λ x. r ≡ Err x) over d)
+    module _ (ls : List Leaf) (leaves : ls ≡ view.leaves) (few : ask.count ≤ page_limit) (sorts : can_sort schema (sort_of ask.sort) ≡ true) where
+      can : can_sort view.schema (sort_of ask.sort) ≡ true
+      can = subst (λ f. can_sort f (sort_of ask.sort) ≡ true) same sorts
+
+      marks : (b : Bool) → has_mark (map bare_record (flat_map live_rows ls)) ask.after ≡ b → has_mark (map bare_record (rows_in view)) ask.after ≡ b
+      marks b has = subst (λ ks. has_mark (map bare_record (flat_map live_rows ks)) ask.after ≡ b) leaves has
+
+      -- the mark is refused
+      pub unmarked : (e : Refusal) → (e ≡ Mark) × (has_mark (map bare_record (flat_map live_rows ls)) ask.after ≡ false) → IsRefused view ask e
+      unmarked e none q rs shows = shown q rs shows (Err Mark) (judged few can q false (marks false none.1)) ∙ ap Err (sym none.0)
+
+      -- nothing is
+      pub wanted_is : (w : Wanted) → w.count ≡ ask.count → IsOrderOf schema (sort_of ask.sort) w.order → has_mark (map bare_record (flat_map live_rows ls)) ask.after ≡ true
+          → mark_standing w.mark ≡ mark_in_rows w.order (flat_map live_rows ls) ask.after → IsWantedOf view ask w
+      wanted_is w count order has mark = record {
+        count = count;
+        few = few;
+        sorts = can;
+        order = subst (λ f. IsOrderOf f (sort_of ask.sort) w.order) same order;
+        has = marks true has;
+        mark = subst (λ ks. mark_standing w.mark ≡ mark_in_rows w.order (flat_map live_rows ks) ask.after) leaves mark;
+      }
+
+  -- nothing is refused of what is wanted
+  pub none_due : {X : Type 0} (given : Result X Refusal) (w : Wanted) → IsWantedOf view ask w → (q : Query) (rs : List Record) → Shows view rs
+      → IfErr (answer view.schema rs (read_of ask q)) (λ e. given ≡ Err e)
+  none_due given w is q rs shows = subst (λ a. IfErr a (λ e. given ≡ Err e)) (sym (shown q rs shows (Ok _) (judged is.few is.sorts q true is.has))) tt
+
+  module _ {X : Type 0} (given : Result X Refusal) (e : Refusal) (same : given ≡ Err e) (refused : IsRefused view ask e) where
+    -- a refusal that is passed on is due, and the one that is due
+    pub refusal : IfErr given (IsRefused view ask)
+    refusal = subst (λ r. IfErr r (IsRefused view ask)) (sym same) refused
+
+    pub is_due : (q : Query) (rs : List Record) → Shows view rs → IfErr (answer view.schema rs (read_of ask q)) (λ x. given ≡ Err x)
+    is_due q rs shows = subst (λ a. IfErr a (λ x. given ≡ Err x)) (sym (refused q rs shows)) same
+
+-- the refusal that a call passes on
+pub passed_on : {T E : Type 0} (r : Result T E) (e : E) → IsErr r × IsErrAnd r (λ x. x ≡ e) → r ≡ Err e
+passed_on (Err x) e is = ap Err is.1
+passed_on (Ok x) e is = absurd is.1

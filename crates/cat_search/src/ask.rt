@@ -1,15 +1,20 @@
 //! What is asked of a page, and what a page takes of its hits.
-ghost use Rattle.std.specs.Prelude.{◌≡◌, ◌≤◌, Bool, List, true, IfOk, IfErr};
-ghost use Rattle.cat_model.specs.Answer.{can_sort};
+ghost use Rattle.std.specs.Prelude.{◌≡◌, ◌≤◌, Bool, Err, List, true, IfOk, IfErr};
+ghost use Rattle.cat_model.specs.Answer.{answer, can_sort};
 ghost use Rattle.cat_model.specs.Item.{Item, Record};
 ghost use Rattle.cat_model.specs.Limits.{page_limit};
-ghost use Rattle.cat_search.specs.Asks.{page_to};
+ghost use Rattle.cat_model.specs.Query as model;
+ghost use Rattle.cat_model.specs.View.{Shows};
+ghost use Rattle.cat_search.specs.Asks.{page_to, read_of};
 ghost use Rattle.cat_search.specs.Sorts.{IsOrderOf, sort_of};
+ghost use Rattle.cat_search.specs.Views.{IsWantedOf};
 
+use crate::mark_rows::mark_in_leaves;
 use crate::sort::{Order, Sort};
 use crate::standings::Candidate;
 use cat_base::{MAX_PAGE, Refusal, WriteNo};
 use cat_query::cat_items::Schema;
+use cat_views::View;
 
 /// What is asked of a page, beside its query (Lucene: the other arguments of `IndexSearcher.searchAfter`).
 #[derive(Clone, Copy, Debug, PartialEq, Eq)]
@@ -22,9 +27,9 @@ pub struct Ask<'a> {
     pub count: u64,
 }
 
-/// An ask whose field and mark are found (Lucene: what a `TopFieldCollectorManager` is made of).
+/// An ask that was judged: its field and its mark are found (Lucene: what a `TopFieldCollectorManager` is made of).
 #[derive(Drop)]
-pub(crate) struct Wanted<'a> {
+pub struct Wanted<'a> {
     pub(crate) order: Order<'a>,
     pub(crate) mark: Option<Candidate<'a>>,
     pub(crate) count: usize,
@@ -45,5 +50,22 @@ impl<'a> Ask<'a> {
         }
         let order = self.sort.resolve(schema)?;
         Ok((order, self.count as usize))
+    }
+}
+
+impl<'a> Wanted<'a> {
+    /// The ask, judged over the view whatever its query is, without memory. The first of these refusals that is due comes:
+    /// [`Refusal::Count`] if more hits are asked for than [`MAX_PAGE`], [`Refusal::SortField`] if the sort is not by a number
+    /// or keyword field of the schema, [`Refusal::Mark`] if the mark is the number of no live row.
+    pub fn of(view: &'a View, ask: Ask<'a>) -> Result<Wanted<'a>, Refusal>
+        ensures ok { IfOk result (λ w. IsWantedOf view.now ask.entry w) }
+        ensures err { IfErr result (λ e. (q : model.Query) (rs : List Record) → Shows view.now rs
+            → answer view.now.schema rs (read_of ask.entry q) ≡ Err e) }
+        ensures due { (q : model.Query) (rs : List Record) → Shows view.now rs
+            → IfErr (answer view.now.schema rs (read_of ask.entry q)) (λ e. result ≡ Err e) }
+    {
+        let (order, count) = ask.resolve(view.schema())?;
+        let mark = mark_in_leaves(view.leaves(), order, ask.after)?;
+        Ok(Wanted { order, mark, count })
     }
 }

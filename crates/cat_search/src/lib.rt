@@ -27,7 +27,7 @@ mod standings;
 mod steps;
 mod walk;
 
-pub use ask::Ask;
+pub use ask::{Ask, Wanted};
 pub use best::Best;
 pub use cat_query::{cat_columns, cat_items};
 pub use cat_views::{Leaf, View, cat_segment};

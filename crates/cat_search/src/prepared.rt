@@ -9,12 +9,12 @@ ghost use Rattle.cat_model.specs.View.{Leaf, Shows, selected};
 ghost use Rattle.cat_query.specs.View.{query_of};
 ghost use Rattle.cat_search.specs.Rows.{leaf_hits};
 ghost use Rattle.cat_views.specs.Sets.{AreSets};
-ghost use Rattle.cat_search.specs.Views.{IsAnswerTo, ViewsShowRecords, answer_over, page_in};
+ghost use Rattle.cat_search.specs.declared.ask.Ask.{Ask};
+ghost use Rattle.cat_search.specs.Views.{IsAnswerTo, IsWantedOf, ViewsShowRecords, answer_over};
 
 use crate::ask::{Ask, Wanted};
 use crate::entries::Page;
 use crate::gathering::{first_entries, hits_of, set_at};
-use crate::mark_rows::mark_in_leaves;
 use cat_base::Refusal;
 use cat_query::cat_columns::RowSet;
 use cat_query::{DocSet, Query};
@@ -125,16 +125,24 @@ impl Prepared {
     /// Lucene: `IndexSearcher.searchAfter` with a `Sort`, where the mark is the `FieldDoc` of the last hit before. In
     /// order of addition it gathers no more hits than are asked for, and counts the others by blocks of 64 rows.
     ///
-    /// The first of these refusals that is due comes: [`Refusal::Count`] if more hits are asked for than
-    /// [`MAX_PAGE`](cat_base::MAX_PAGE), [`Refusal::SortField`] if the sort is not by a number or keyword field of the
-    /// schema, [`Refusal::Mark`] if the mark is the number of no live row. Where none of them is due,
-    /// [`Refusal::Memory`] may come instead of the page.
+    /// The first of the refusals of [`Wanted::of`] that is due comes. Where none of them is due, [`Refusal::Memory`] may come
+    /// instead of the page.
     pub fn page(&self, alloc: Global, ask: Ask<'_>) -> Result<Page, Refusal>
         ensures ok { IfOk result (λ page. IsAnswerTo self.now ask.entry (Ok (Found.page page))) }
         ensures err { IfErr result (λ e. e ≢ Memory → IsAnswerTo self.now ask.entry (Err e)) }
         ensures due { (rs : List Record) → Shows self.now.view rs → IfErr (answer_over self.now ask.entry rs) (λ e. result ≡ Err e) }
     {
-        page_over(alloc, &self.view, &self.query, sets_of(&self.sets), ask)
+        let wanted = Wanted::of(&self.view, ask)?;
+        Ok(self.page_for(alloc, &wanted)?)
+    }
+
+    /// The same page, for an ask that was judged over the view.
+    pub fn page_for(&self, alloc: Global, wanted: &Wanted<'_>) -> Result<Page, AllocError>
+        ensures { IfOk result (λ page. (ask : Ask) → IsWantedOf self.now.view ask wanted.now → IsAnswerTo self.now ask (Ok (Found.page page))) }
+    {
+        let sets = sets_of(&self.sets);
+        let (total, entries) = first_entries(alloc, self.view.leaves(), &self.query, sets, wanted)?;
+        Ok(Page::new(total, entries))
     }
 }
 
@@ -146,27 +154,6 @@ fn sets_of(sets: &Option<Vec<Option<Arc<DocSet>>>>) -> &[Option<Arc<DocSet>>]
         Some(sets) => sets,
         None => &[],
     }
-}
-
-/// The page over the live rows of the view.
-pub(crate) fn page_over(
-    alloc: Global,
-    view: &View,
-    query: &Query,
-    sets: &[Option<Arc<DocSet>>],
-    ask: Ask<'_>,
-) -> Result<Page, Refusal>
-    requires { AreSets (query_of query.now) view.now.leaves sets.now }
-    ensures ok { IfOk result (λ p. page_in view.now (query_of query.now) ask.entry ≡ Ok p) }
-    ensures err { IfErr result (λ e. e ≢ Memory → page_in view.now (query_of query.now) ask.entry ≡ Err e) }
-    ensures due { IfErr (page_in view.now (query_of query.now) ask.entry) (λ e. result ≡ Err e) }
-{
-    let (order, count) = ask.resolve(view.schema())?;
-    let leaves = view.leaves();
-    let mark = mark_in_leaves(leaves, order, ask.after)?;
-    let wanted = Wanted { order, mark, count };
-    let (total, entries) = first_entries(alloc, leaves, query, sets, &wanted)?;
-    Ok(Page::new(total, entries))
 }
 
 /// Each view shows some records, so that what is said of all records that a view shows is said of some.
