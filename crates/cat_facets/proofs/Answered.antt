@@ -1,14 +1,13 @@
 -- The answers to FACETS over whatever records a view shows.
-use Rattle.std.proofs.Common.{◌≡◌, ℕ, ◌<◌, ◌≤◌, false, cond, List, length, map, nat_lt, Result, Ok, Err, IfErr, sym, ap, ◌∙◌, subst}
+use Rattle.std.proofs.Common.{◌≡◌, ℕ, ◌≤◌, cond, List, length, map, nat_lt, Ok, Err, sym, ap, ◌∙◌}
 use Rattle.std.specs.List.{flat_map}
-use Rattle.std.proofs.lemmas.Bool.{lt-ltb, le-ltb}
+use Rattle.std.proofs.lemmas.Bool.{le-ltb}
 use Rattle.std.specs.Prelude.{All}
 use Rattle.cat_base.specs.Texts.{IsTextSet}
-use Rattle.cat_base.specs.declared.refusal.Refusal.{Refusal}
 use Rattle.cat_base.specs.declared.refusal.Refusal.TheVariants.{Count, NotFacet}
-use Rattle.cat_model.specs.Answer.{Found, is_facet_kind}
+use Rattle.cat_model.specs.Answer.{Found}
 use Rattle.cat_model.specs.Facets.{Counted, Facets, facets_in, facets_of}
-use Rattle.cat_model.specs.Item.{Record, kind_of}
+use Rattle.cat_model.specs.Item.{Record}
 use Rattle.cat_model.specs.Limits.{page_limit}
 use Rattle.cat_model.specs.Page.{first_ranked, hits}
 use Rattle.cat_model.specs.Text.{Text}
@@ -24,34 +23,12 @@ use Rattle.cat_facets.proofs.Bridge.{view_labels}
 use Rattle.cat_facets.proofs.Leaves.{hits_heard}
 use Rattle.cat_facets.proofs.Told.{facets_are}
 
--- the dimension is no facet field
-pub no_facet : (view : View) (dimension : Text) (q : Query) (n : ℕ) (rs : List Record) → is_facet_kind (kind_of view.schema dimension) ≡ false → facets_answer_over view dimension q n rs ≡ Err NotFacet
-no_facet view dimension q n rs other =
-    ap (λ b. cond b (cond (nat_lt page_limit n) (Err Count) (Ok (Found.facets (facets_in rs (query_of q) dimension n)))) (Err NotFacet)) other
-
--- too many counts are asked for
-pub refused : (view : View) (dimension : Text) (q : Query) (n : ℕ) (rs : List Record) → IsDimensionOf view dimension → page_limit < n → facets_answer_over view dimension q n rs ≡ Err Count
-refused view dimension q n rs facet past =
-    ap (λ b. cond b (cond (nat_lt page_limit n) (Err Count) (Ok (Found.facets (facets_in rs (query_of q) dimension n)))) (Err NotFacet)) facet
-    ∙ ap (λ b. cond b (Err Count) (Ok (Found.facets (facets_in rs (query_of q) dimension n)))) (lt-ltb page_limit n past)
-
 -- counts are due
-pub told_facets : (view : View) (dimension : Text) (q : Query) (n : ℕ) (rs : List Record) → IsDimensionOf view dimension → n ≤ page_limit
-    → facets_answer_over view dimension q n rs ≡ Ok (Found.facets (facets_of (hits rs (query_of q)) dimension n))
-told_facets view dimension q n rs facet few =
-    ap (λ b. cond b (cond (nat_lt page_limit n) (Err Count) (Ok (Found.facets (facets_in rs (query_of q) dimension n)))) (Err NotFacet)) facet
-    ∙ ap (λ b. cond b (Err Count) (Ok (Found.facets (facets_in rs (query_of q) dimension n)))) (le-ltb page_limit n few)
-
 pub found : (view : View) (dimension : Text) (q : Query) (n : ℕ) (rs : List Record) (f : Facets) → IsDimensionOf view dimension → n ≤ page_limit
     → f ≡ facets_of (hits rs (query_of q)) dimension n → facets_answer_over view dimension q n rs ≡ Ok (Found.facets f)
-found view dimension q n rs f facet few is = told_facets view dimension q n rs facet few ∙ ap (λ g. Ok (Found.facets g)) (sym is)
-
--- a refusal is due only where it is the answer
-pub due_refused : {X : Type 0} (given : Result X Refusal) (e : Refusal) (r : Result Found Refusal) → r ≡ Err e → given ≡ Err e → IfErr r (λ x. given ≡ Err x)
-due_refused given e r is same = subst (λ a. IfErr a (λ x. given ≡ Err x)) (sym is) same
-
-pub due_found : {X : Type 0} (given : Result X Refusal) (f : Found) (r : Result Found Refusal) → r ≡ Ok f → IfErr r (λ x. given ≡ Err x)
-due_found given f r is = subst (λ a. IfErr a (λ x. given ≡ Err x)) (sym is) tt
+found view dimension q n rs f facet few is =
+    ap (λ b. cond b (cond (nat_lt page_limit n) (Err Count) (Ok (Found.facets (facets_in rs (query_of q) dimension n)))) (Err NotFacet)) facet
+    ∙ ap (λ b. cond b (Err Count) (Ok (Found.facets (facets_in rs (query_of q) dimension n)))) (le-ltb page_limit n few) ∙ ap (λ g. Ok (Found.facets g)) (sym is)
 
 -- the counts over the leaves of a view are those over the hits among the records that it shows
 pub counted_facets : (view : View) (q : Query) (dimension : Text) (n labelled met : ℕ) (labels : List Text) (totals : List ℕ) (ranked : List Ranked) (counts : List Counted) (rs : List Record)

@@ -17,6 +17,12 @@ pub record ReaderState : Type 0 where
   pub segments : List Segment
   pub dimension : Text
 
+-- counts that are asked for over a view: their dimension, and how many of them
+pub record WantedCounts : Type 0 where
+  pub view : View
+  pub dimension : Text
+  pub count : ℕ
+
 -- ---- segments
 
 -- a segment as a leaf: what is kept of it doesn't ask which rows are live

@@ -13,10 +13,11 @@ mod state;
 mod states;
 mod totals;
 mod uncounting;
+mod wanted_counts;
 
 pub use cat_search;
 pub use cat_search::cat_segment;
 pub use facets::{FacetCount, Facets};
 pub use limits::MAX_KEPT_STATES;
-pub use state::ReaderState;
 pub use states::ReaderStates;
+pub use wanted_counts::WantedCounts;

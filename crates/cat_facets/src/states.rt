@@ -1,18 +1,16 @@
 //! States that are kept, so that the next counts needn't make them anew.
-ghost use Rattle.std.specs.Prelude.{◌≡◌, ◌≢◌, ◌⊎◌, [], ◌∷◌, ◌++◌, ◌≤◌, List, length, find, All, Ok, Err, IfOk, IfErr, IfNone, OnErr, OnOk};
+ghost use Rattle.std.specs.Prelude.{◌≡◌, ◌⊎◌, [], ◌∷◌, ◌++◌, ◌≤◌, List, length, find, All, Ok, IfOk, IfNone, OnErr, OnOk};
 ghost use Rattle.std.specs.List.{position};
-ghost use Rattle.cat_base.specs.declared.refusal.Refusal.TheVariants.{Memory};
 ghost use Rattle.cat_model.specs.Answer.{Found};
-ghost use Rattle.cat_model.specs.Item.{Record};
-ghost use Rattle.cat_model.specs.View.{Shows, segments_of};
+ghost use Rattle.cat_model.specs.View.{segments_of};
 ghost use Rattle.cat_facets.specs.Kept.{is_kept_as, last_kept, most_kept, segment_numbers, others, state_used_in, KnowsIn, RemembersOf, RemembersOfBelow};
-ghost use Rattle.cat_facets.specs.States.{facets_answer_over, IsFacetsAnswer, IsDimensionOf};
+ghost use Rattle.cat_facets.specs.States.{IsFacetsAnswer, IsDimensionOf};
 
 use crate::facets::Facets;
 use crate::limits::MAX_KEPT_STATES;
-use crate::state::{ReaderState, is_facet};
-use cat_base::{MAX_PAGE, Refusal, SegNo};
-use cat_search::cat_items::kind_of;
+use crate::state::ReaderState;
+use crate::wanted_counts::WantedCounts;
+use cat_base::SegNo;
 use cat_search::{Leaf, Prepared, View};
 use std::alloc::{AllocError, Global};
 use std::marker::Model;
@@ -108,41 +106,27 @@ impl ReaderStates {
         self.states.len()
     }
 
-    /// The counts over the hits of the query in the dimension, of which the first n are told, as [`ReaderState::counts`] answers
-    /// them. The state of the view's segments is the last used then; it is made where none is kept, and the least recently used
-    /// goes where there are too many.
-    ///
-    /// The first of these refusals that is due comes: [`Refusal::NotFacet`] if the dimension is no facet field of the view's
-    /// schema, [`Refusal::Count`] if n is above [`MAX_PAGE`]. Neither looks at a state. Where none of them is due,
-    /// [`Refusal::Memory`] may come instead of the counts.
+    /// The counts that are wanted, over the hits of the query. The state of the view's segments is the last used then; it is made
+    /// where none is kept, and the least recently used goes where there are too many. An error also where the view has 2^32
+    /// labels or more.
     pub fn counts(
         &mut self,
         alloc: Global,
         prepared: &Prepared,
-        dimension: &str,
-        n: u64,
-    ) -> Result<Facets, Refusal>
-        requires { All (KnowsIn self.old) (segments_of prepared.now.view.leaves) }
-        ensures ok { IfOk result (λ f. IsFacetsAnswer prepared.now.view dimension.now prepared.now.query n (Ok (Found.facets f))) }
-        ensures err { IfErr result (λ e. e ≢ Memory → IsFacetsAnswer prepared.now.view dimension.now prepared.now.query n (Err e)) }
-        ensures due { (rs : List Record) → Shows prepared.now.view rs
-            → IfErr (facets_answer_over prepared.now.view dimension.now prepared.now.query n rs) (λ e. result ≡ Err e) }
+        wanted: &WantedCounts<'_>,
+    ) -> Result<Facets, AllocError>
+        requires known { All (KnowsIn self.old) (segments_of prepared.now.view.leaves) }
+        requires judged { wanted.now.view ≡ prepared.now.view }
+        ensures ok { IfOk result (λ f. IsFacetsAnswer prepared.now.view wanted.now.dimension prepared.now.query wanted.now.count (Ok (Found.facets f))) }
         ensures used { OnOk result (self.new
-            ≡ state_used_in (record { segments = segments_of prepared.now.view.leaves; dimension = dimension.now }) self.old) }
+            ≡ state_used_in (record { segments = segments_of prepared.now.view.leaves; dimension = wanted.now.dimension }) self.old) }
         ensures left { OnErr result ((self.new ≡ self.old) ⊎ (self.new
-            ≡ state_used_in (record { segments = segments_of prepared.now.view.leaves; dimension = dimension.now }) self.old)) }
+            ≡ state_used_in (record { segments = segments_of prepared.now.view.leaves; dimension = wanted.now.dimension }) self.old)) }
         ensures known { RemembersOf (segments_of prepared.now.view.leaves) self.old self.new }
         ensures below { RemembersOfBelow (segments_of prepared.now.view.leaves) self.old self.new }
     {
-        let view = prepared.view();
-        if !is_facet(kind_of(view.schema().fields(), dimension)) {
-            return Err(Refusal::NotFacet);
-        }
-        if n > MAX_PAGE as u64 {
-            return Err(Refusal::Count);
-        }
-        let mut kept = self.take(alloc, view, dimension)?;
-        let facets = kept.state.counts(alloc, prepared, n);
+        let mut kept = self.take(alloc, prepared.view(), wanted.dimension())?;
+        let facets = kept.state.counts(alloc, prepared, wanted.count());
         self.keep(kept);
         facets
     }

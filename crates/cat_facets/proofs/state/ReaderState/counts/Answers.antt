@@ -1,13 +1,10 @@
-use Rattle.std.proofs.Common.{◌≡◌, ℕ, ◌≤◌, ◌++◌, List, Ok, Err, length, map, take, drop, sym, ap, ◌∙◌, arith, refl, subst}
+use Rattle.std.proofs.Common.{◌≡◌, ℕ, ◌≤◌, ◌++◌, List, length, map, take, drop, sym, ap, ◌∙◌, arith, refl, subst}
 use Rattle.std.proofs.lemmas.List.{append-nil, drop_all, take_all}
 use Rattle.std.specs.List.{flat_map}
 use Rattle.cat_base.specs.Texts.{IsTextSet}
-use Rattle.cat_base.specs.declared.refusal.Refusal.TheVariants.{Count}
-use Rattle.cat_model.specs.Answer.{Found}
-use Rattle.cat_model.specs.Facets.{Facets}
+use Rattle.cat_model.specs.Facets.{Facets, facets_of}
 use Rattle.cat_model.specs.Item.{Record}
-use Rattle.cat_model.specs.Limits.{page_limit}
-use Rattle.cat_model.specs.Page.{first_ranked}
+use Rattle.cat_model.specs.Page.{first_ranked, hits}
 use Rattle.cat_model.specs.Text.{Text}
 use Rattle.cat_model.specs.View.{Leaf, Shows, View, segments_of}
 use Rattle.cat_search.specs.cat_query.declared.query.Query.{Query}
@@ -16,9 +13,9 @@ use Rattle.cat_search.proofs.columns_laws.Ordinals.{dictionary_rises}
 use Rattle.cat_model.specs.GlobalOrdinals.{leaf_dictionary}
 use Rattle.cat_facets.specs.declared.segments.SegmentLabels.{SegmentLabels}
 use Rattle.cat_facets.specs.Met.{facets_by, label_comes_first, label_told, met_from}
-use Rattle.cat_facets.specs.States.{ReaderState, facets_answer_over, as_leaves, union_in, AreKnown, IsDimensionKept, IsDimensionOf, IsState}
+use Rattle.cat_facets.specs.States.{ReaderState, as_leaves, union_in, AreKnown, IsDimensionKept, IsState}
 use Rattle.cat_facets.specs.Tallies.{hit_labels, labelled_count, AreCounts}
-use Rattle.cat_facets.proofs.Answered.{counted_facets, due_refused, found, refused}
+use Rattle.cat_facets.proofs.Answered.{counted_facets}
 use Rattle.cat_facets.proofs.LiveTotals.{live_alike}
 use Rattle.cat_facets.proofs.SameSegments.{kept_alike, known_alike, segments-as_leaves}
 use Rattle.cat_facets.proofs.state.ReaderState.counts.Goals as goal
@@ -51,19 +48,18 @@ still_kept state dimension d own leaves labels old new len some mine same was na
       (subst (λ x. AreKnown x labels leaves new) named are));
 }
 
--- the answer that is told of counts over leaves of the state's segments
+-- the counts over leaves of the state's segments are those over the records that are shown
 told : (state : ReaderState) (view : View) (q : Query) (n labelled : ℕ) (labels : List Text) (segments : List SegmentLabels) (totals : List ℕ) (d : Text) (f : Facets) (rs : List Record)
-    → segments_of view.leaves ≡ state.segments → IsDimensionOf view state.dimension → n ≤ page_limit → IsState state labels segments → d ≡ state.dimension → Shows view rs
+    → segments_of view.leaves ≡ state.segments → IsState state labels segments → d ≡ state.dimension → Shows view rs
     → AreCounts labels (flat_map (hit_labels (query_of q) d) view.leaves) totals → labelled ≡ labelled_count (flat_map (hit_labels (query_of q) d) view.leaves)
-    → f ≡ facets_by labels labelled totals n → facets_answer_over view state.dimension q n rs ≡ Ok (Found.facets f)
-told state view q n labelled labels segments totals d f rs same facet few is named shown are l due =
+    → f ≡ facets_by labels labelled totals n → f ≡ facets_of (hits rs (query_of q)) state.dimension n
+told state view q n labelled labels segments totals d f rs same is named shown are l due =
     let kept = kept_of state view.leaves labels segments same is in
     let rows = λ (x : Text). flat_map (hit_labels (query_of q) x) view.leaves in
-    found view state.dimension q n rs f facet few
-    (due
+    due
     ∙ counted_facets view q state.dimension n labelled (length (met_from 0 totals)) labels totals (first_ranked label_comes_first (met_from 0 totals) n)
     (map (label_told labels) (first_ranked label_comes_first (met_from 0 totals) n)) rs shown (labels_rise state.dimension view.leaves labels kept.labels) kept.texts kept.labels
-    (subst (λ x. AreCounts labels (rows x) totals) named are) (l ∙ ap (λ x. labelled_count (rows x)) named) refl refl refl)
+    (subst (λ x. AreCounts labels (rows x) totals) named are) (l ∙ ap (λ x. labelled_count (rows x)) named) refl refl refl
 
 -- what is known of the state's segments is known of leaves of them
 known_of : (state own : ReaderState) (leaves : List Leaf) (labels : List Text) (segments seen : List SegmentLabels) (d : Text) → own ≡ state → segments_of leaves ≡ state.segments
@@ -71,16 +67,6 @@ known_of : (state own : ReaderState) (leaves : List Leaf) (labels : List Text) (
 known_of state own leaves labels segments seen d mine same is named all =
     let kept = kept_of state leaves labels segments same (subst (λ s. IsState s labels segments) mine is) in
     subst (λ x. AreKnown x labels leaves seen) (sym (named ∙ ap (λ s. s.dimension) mine)) (subst (λ (ks : List SegmentLabels). AreKnown state.dimension labels leaves ks) (sym all) kept.known)
-
-pub returns-then-n-clause-err : goal.returns-then-n-clause-err
-returns-then-n-clause-err c = λ other rs shown.
-    refused c.args.prepared.now.view c.args.self.now.dimension c.args.prepared.now.query c.args.n rs c.requires.facet c.if-n.true
-
-pub returns-then-n-clause-due : goal.returns-then-n-clause-due
-returns-then-n-clause-due c = λ rs shown.
-    let view = c.args.prepared.now.view in
-    due_refused (Err Count) Count (facets_answer_over view c.args.self.now.dimension c.args.prepared.now.query c.args.n rs)
-    (refused view c.args.self.now.dimension c.args.prepared.now.query c.args.n rs c.requires.facet c.if-n.true) refl
 
 pub count_live-requires-clause-known : goal.count_live-requires-clause-known
 count_live-requires-clause-known c =
@@ -110,7 +96,7 @@ returns-then-is_everything-clause-ok c = λ rs shown.
     let are =
     subst (λ ts. AreCounts labels (flat_map (hit_labels (query_of prepared.query) c.as_str-dimension.result.now) prepared.view.leaves) ts) (sym c.deref.ensures.value) c.in_ok-count_live.ensures.counts in
     told state prepared.view prepared.query c.args.n c.count_live.new.kept.labelled labels c.self.inside.segments.items c.deref.result.now c.as_str-dimension.result.now c.in_ok-facets_told.field-0 rs
-    c.requires.segments c.requires.facet (omega arith) inv named shown are c.in_ok-count_live.ensures.labelled c.in_ok-facets_told.ensures.ok
+    c.requires.segments inv named shown are c.in_ok-count_live.ensures.labelled c.in_ok-facets_told.ensures.ok
 
 pub returns-clause-ok : goal.returns-clause-ok
 returns-clause-ok c = λ rs shown.
@@ -122,7 +108,7 @@ returns-clause-ok c = λ rs shown.
     let are =
     subst (λ ts. AreCounts labels (flat_map (hit_labels (query_of prepared.query) c.as_str-dimension.result.now) prepared.view.leaves) ts) (sym c.deref-2.ensures.value) c.in_ok-labelled.ensures.counts in
     told state prepared.view prepared.query c.args.n c.in_ok-labelled.labelled labels c.self.inside.segments.items c.deref-2.result.now c.as_str-dimension.result.now c.in_ok-facets_told-2.field-0 rs
-    c.requires.segments c.requires.facet (omega arith) inv named shown are c.in_ok-labelled.ensures.labelled c.in_ok-facets_told-2.ensures.ok
+    c.requires.segments inv named shown are c.in_ok-labelled.ensures.labelled c.in_ok-facets_told-2.ensures.ok
 
 pub invariant_of-self : goal.invariant_of-self
 invariant_of-self c = (
