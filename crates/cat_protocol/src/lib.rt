@@ -7,5 +7,5 @@ pub mod replies;
 pub mod sending;
 pub mod serving;
 
-pub use cat_facets::cat_search::{Ask, Page, Prepared, Sort};
-pub use cat_facets::{Facets, ReaderStates, cat_segment};
+pub use cat_facets::cat_search::{Ask, Page, Prepared, Sort, Wanted};
+pub use cat_facets::{Facets, ReaderStates, WantedCounts, cat_segment};
