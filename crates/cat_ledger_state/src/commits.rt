@@ -9,12 +9,14 @@ ghost use Rattle.cat_model.specs.Limits.{last_number};
 ghost use Rattle.cat_directory.specs.Devices.{CountsOne, NoMore};
 ghost use Rattle.cat_directory.specs.Names.{name_of};
 ghost use Rattle.cat_directory.specs.declared.name.FileName.{FileName};
-ghost use Rattle.cat_model.specs.CommitFile.{commit_needs};
+ghost use Rattle.cat_model.specs.CommitFile.{IsCommitFile, commit_needs, spelled_commit};
 ghost use Rattle.cat_model.specs.State.{stays_kept};
 ghost use Rattle.cat_ledger_laws.specs.model.Users.{users_of, has_name, times, Changes};
 ghost use Rattle.cat_lifetimes.specs.refs.Counts.{names_in};
 ghost use Rattle.cat_ledger_laws.specs.shape.CommitLaws.{names_begun};
-ghost use Rattle.cat_commits.specs.writing.NewFiles.{AreSettled, ComesLast};
+ghost use Rattle.cat_ledger_laws.specs.shape.Steps.{commit_file_now, listed_now};
+ghost use Rattle.cat_commits.specs.writing.Drafts.{OwnComesBehind};
+ghost use Rattle.cat_commits.specs.writing.NewFiles.{AreSettled, ComesLast, OnlyTorn};
 ghost use Rattle.cat_ledger_state.specs.Commits.{HasCommitted, draft_now, names_given, names_synced};
 ghost use Rattle.cat_ledger_state.specs.Cores.{HasGivenUp, StayKnown, is_begun};
 
@@ -87,7 +89,8 @@ impl Core {
     fn draft(&self, text: &str) -> Result<Draft, AllocError>
         requires text { IsCommitText text.now }
         requires left { self.now.next_generation ≤ last_number }
-        ensures { IfOk result (λ d. d ≡ draft_now text.now self.now) }
+        ensures ok { IfOk result (λ d. d ≡ draft_now text.now self.now) }
+        ensures form { IsCommitFile (commit_file_now text.now self.now) }
     {
         // Its contract says that they are those of a schema.
         let _fields = self.schema.fields();
@@ -107,10 +110,11 @@ impl Core {
         requires left { self.now.next_generation ≤ last_number }
         ensures draft { IfOk result (λ r. r.draft ≡ draft_now text.now self.now) }
         ensures given { IfOk result (λ r. map name_of r.given.items ≡ names_given self.now) }
+        ensures form { IsCommitFile (commit_file_now text.now self.now) }
     {
+        let draft = self.draft(text)?;
         let newest = Some(self.next_generation);
         let given = files_leaving(self.alloc, &self.commits, newest, &self.snapshots, None)?;
-        let draft = self.draft(text)?;
         Ok(ReadyCommit { draft, given })
     }
 
@@ -129,6 +133,7 @@ impl Core {
     ) -> Result<Generation, Refusal>
         requires flushed { self.old.buffered ≡ [] }
         requires text { IsCommitText text.now }
+        ensures form { self.old.next_generation ≤ last_number → IsCommitFile (commit_file_now text.now self.old) }
         ensures number { IfOk result (λ g. g ≡ self.old.next_generation) }
         ensures ok { OnOk result (HasCommitted text.now (D.bytes device.old) self.old (D.bytes device.new) self.new) }
         ensures err { OnErr result (HasGivenUp (names_begun self.old) (D.bytes device.old) self.old (D.bytes device.new) self.new) }
@@ -140,6 +145,10 @@ impl Core {
             (D.bytes device.new) (D.may_leave device.new)) }
         ensures order { ComesLast (FileName.Commit self.old.next_generation) (names_synced self.old) (D.bytes device.old) (D.bytes device.new)
             (D.may_leave device.old) (D.may_leave device.new) }
+        ensures behind { OwnComesBehind self.old.next_generation (listed_now self.old) (D.bytes device.old) (D.bytes device.new)
+            (D.may_leave device.old) (D.may_leave device.new) }
+        ensures torn { OnlyTorn (FileName.Commit self.old.next_generation) (spelled_commit (commit_file_now text.now self.old))
+            (D.bytes device.old) (D.may_leave device.old) (D.may_leave device.new) }
         ensures spent { IfErr result (λ e. e ≡ Spent → last_number < self.old.next_generation) }
         ensures due { IfErr result (λ e. (e ≡ Memory) ⊎ (e ≡ Device) → self.old.next_generation ≤ last_number) }
         ensures device { IfErr result (λ e. e ≡ Device → D.can_fail device.old

@@ -3,7 +3,7 @@ use Rattle.std.specs.Prelude.{◌⊎◌}
 use Rattle.std.proofs.lemmas.Result.{IfOk-at_ok, IfErr-at_err}
 use Rattle.cat_base.specs.declared.refusal.Refusal.TheVariants.{Device}
 use Rattle.cat_model.specs.Files.{Name}
-use Rattle.cat_model.specs.CommitFile.{commit_needs}
+use Rattle.cat_model.specs.CommitFile.{commit_needs, spelled_commit}
 use Rattle.cat_directory.specs.Names.{name_of}
 use Rattle.cat_directory.specs.declared.name.FileName.{FileName}
 use Rattle.cat_directory.specs.declared.name.FileName.TheVariants as file
@@ -12,7 +12,8 @@ use Rattle.cat_ledger_laws.specs.shape.CommitLaws.{names_begun}
 use Rattle.cat_ledger_laws.specs.shape.Ties.{TouchesOnly}
 use Rattle.cat_ledger_laws.proofs.shape.Committed.{commits_keep}
 use Rattle.cat_ledger_laws.proofs.shape.Writes.{refusals_keep}
-use Rattle.cat_commits.specs.writing.NewFiles.{AreSettled, ComesLast, NoMoreBut}
+use Rattle.cat_commits.specs.writing.Drafts.{OwnComesBehind}
+use Rattle.cat_commits.specs.writing.NewFiles.{AreSettled, ComesLast, NoMoreBut, OnlyTorn}
 use Rattle.cat_commits.specs.writing.Unsynced.{begun}
 use Rattle.cat_ledger_state.specs.Commits.{HasCommitted, draft_now, names_given}
 use Rattle.cat_ledger_state.specs.Cores.{HasGivenUp, StayKnown, shape_of_core}
@@ -156,3 +157,19 @@ returns-in-Err-clause-known g c =
 
 pub returns-in-Err-clause-taken : goal.returns-in-Err-clause-taken
 returns-in-Err-clause-taken g c = inl (ap (λ s. s.next_generation + 1) c.self.view_is)
+
+pub returns-clause-behind : goal.returns-clause-behind
+returns-clause-behind g c =
+    subst (λ d. OwnComesBehind d.commit.generation d.listing (g.D.Holder.bytes c.args.device.now) (g.D.Holder.bytes c.write-written.new.device) (g.D.Holder.may_leave c.args.device.now) (g.D.Holder.may_leave c.write-written.new.device)) c.in_ok-ready.ensures.draft c.write-written.ensures.behind
+
+pub returns-clause-torn : goal.returns-clause-torn
+returns-clause-torn g c =
+    subst (λ d. OnlyTorn (file.Commit d.commit.generation) (spelled_commit d.commit) (g.D.Holder.bytes c.args.device.now) (g.D.Holder.may_leave c.args.device.now) (g.D.Holder.may_leave c.write-written.new.device)) c.in_ok-ready.ensures.draft c.write-written.ensures.torn
+
+pub returns-in-Err-clause-behind : goal.returns-in-Err-clause-behind
+returns-in-Err-clause-behind g c =
+    subst (λ d. OwnComesBehind d.commit.generation d.listing (g.D.Holder.bytes c.args.device.now) (g.D.Holder.bytes c.write-written.new.device) (g.D.Holder.may_leave c.args.device.now) (g.D.Holder.may_leave c.write-written.new.device)) c.in_ok-ready.ensures.draft c.write-written.ensures.behind
+
+pub returns-in-Err-clause-torn : goal.returns-in-Err-clause-torn
+returns-in-Err-clause-torn g c =
+    subst (λ d. OnlyTorn (file.Commit d.commit.generation) (spelled_commit d.commit) (g.D.Holder.bytes c.args.device.now) (g.D.Holder.may_leave c.args.device.now) (g.D.Holder.may_leave c.write-written.new.device)) c.in_ok-ready.ensures.draft c.write-written.ensures.torn
