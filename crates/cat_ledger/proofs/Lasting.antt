@@ -381,7 +381,7 @@ listed_needed s its n =
     (newest_lists its.0.schema None its.0.commits n)
 
 -- what a commit of now needs is synced with it, or the newest one needs it too
-now_needs : NeededAreSynced → (text : Text) (s : Shape) → IsShape s → (n : Name) → has_name n (commit_needs (commit_file_now text s)) ≡ true
+pub now_needs : NeededAreSynced → (text : Text) (s : Shape) → IsShape s → (n : Name) → has_name n (commit_needs (commit_file_now text s)) ≡ true
     → (has_name n (Name.commit s.next_generation ∷ names_synced s) ≡ true) ⊎ (has_name n (newest_needs s.commits) ≡ true)
 now_needs law text s its n needed =
     elim (law s.listed s.leaves (record { generation = s.next_generation; token = s.count; next_segment = s.next_segment; text = text; schema = s.schema }) n needed) [

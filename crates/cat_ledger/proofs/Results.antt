@@ -26,3 +26,8 @@ on_ok (Err e) f a = tt
 pub if_err : {X E : Type 0} (P Q : E → Type 0) (r : Result X E) → ((e : E) → P e → Q e) → IfErr r P → IfErr r Q
 if_err P Q (Ok x) f p = tt
 if_err P Q (Err e) f p = f e p
+
+-- what is so is said of success
+pub either_ok : {X E A : Type 0} (r : Result X E) → A → OnOk r A
+either_ok (Ok x) a = a
+either_ok (Err e) a = tt

@@ -2,6 +2,7 @@
 use Rattle.std.specs.Prelude.{◌≡◌, ◌≢◌, ◌⊎◌, ℕ, ◌<◌, ◌≤◌, true, List, [], ◌∷◌, ◌++◌, map, Option, Some, None, Ok, Err, All}
 use Rattle.cat_model.specs.Lines.{Said}
 use Rattle.cat_model.specs.Run.{Answer, Reply}
+use Rattle.cat_model.specs.Text.{Text}
 use Rattle.cat_directory.specs.Devices.{FileContent, NoMore, OrGone}
 use Rattle.cat_directory.specs.Names.{name_of}
 use Rattle.cat_directory.specs.declared.name.FileName.{FileName}
@@ -10,18 +11,21 @@ use Rattle.cat_ledger_laws.specs.model.Users.{has_name}
 use Rattle.cat_ledger_laws.specs.shape.Shapes.{Shape}
 use Rattle.cat_ledger_laws.specs.shape.Steps.{newest_generation}
 use Rattle.cat_ledger_laws.specs.shape.Ties.{ToldFiles}
+use Rattle.cat_ledger_laws.specs.shape.Tried.{IsFreshAhead, IsTriedCommit, LeavesTried, SparesTaken, TriedCommit}
+use Rattle.cat_ledger_laws.specs.lines.TriedLaws.{IsPromisedBy}
 use Rattle.cat_ledger_state.specs.startup.Newest.{HasNoCommit, IsNewestCommit}
-use Rattle.cat_ledger.specs.Lasting.{AlwaysTells, newest_needs}
+use Rattle.cat_ledger.specs.Lasting.{AlwaysTells, IsLasting, newest_needs}
 use Rattle.cat_ledger.specs.Ledgers.{LedgerOnDevice, device_in, shape_in}
+use Rattle.cat_ledger.specs.upkeep.Spared.{SparesCommits}
 
 -- ---- what a call has to do with commits
 
--- Another call than one for a commit, whatever it answered; a commit of this generation that was answered OK; or one that was refused,
--- whose files may have been begun.
+-- Another call than one for a commit, whatever it answered; a commit of this generation that was answered OK; or one that was refused, but
+-- whose own file may have been begun: what that was to say, and what the files held then.
 pub data Event : Type 0 where
   Other : Event
   Answered : (generation : ℕ) → Event
-  Refused : (generation : ℕ) → Event
+  Refused : (tried : TriedCommit) → Event
 
 -- no commit was answered
 abbrev pub IsUnanswered : Event → Type 0
@@ -32,7 +36,7 @@ IsUnanswered event = Unit {0}
 abbrev pub MayBegin : Event → ℕ → Type 0
 MayBegin Event.Other g = ⊥
 MayBegin (Event.Answered h) g = g ≡ h
-MayBegin (Event.Refused h) g = g ≡ h
+MayBegin (Event.Refused t) g = g ≡ t.commit.generation
 
 -- the generation of the newest commit, if there is one
 abbrev pub newest_commit_in : {D : Type 0} → LedgerOnDevice D → Option ℕ
@@ -49,24 +53,44 @@ IsPastNewest None g = Unit {0}
 IsPastNewest (Some h) g = h < g
 
 -- What a call leaves of commits: the newest one is the one that it was answered, if it was; generations go up, and a commit asks for the
--- one that comes next, which is past the newest, and isn't given out again where its files may have been begun; and a crash may leave of
--- each commit's own file what it could have left before, or nothing, but of the one that the call may have begun. The first argument says
--- what a crash may leave of a device's files.
-pub record Goes {D : Type 0} (left : D → FileName → FileContent → Type 0) (event : Event) (old new : LedgerOnDevice D) : Type 0 where
+-- one that comes next, which is past the newest, and isn't given out again where its files may have been begun; a crash may leave of
+-- each commit's own file what it could have left before, or nothing, but of the one that the call may have begun; and no file is written
+-- again, nor a number given out again. What a refused commit tried: where nothing could be left of the own file of a commit whose number
+-- wasn't given out, a crash may leave its own file torn, beside the files that it lists; and it promises the table of then. The first two
+-- arguments say what a device tells of its files, and what a crash may leave of them.
+pub record Goes {D : Type 0} (bytes : D → ToldFiles) (left : D → FileName → FileContent → Type 0) (event : Event) (old new : LedgerOnDevice D)
+    : Type 0 where
   pub newest : newest_commit_in new ≡ newest_after event (newest_commit_in old)
   pub next : (shape_in old).next_generation ≤ (shape_in new).next_generation
   pub asked : (g : ℕ) → MayBegin event g → (g ≡ (shape_in old).next_generation) × IsPastNewest (newest_commit_in old) g
   pub taken : (g : ℕ) → MayBegin event g → g < (shape_in new).next_generation
   pub files : (g : ℕ) → (MayBegin event g → ⊥) → OrGone (left (device_in old) (file.Commit g)) (left (device_in new) (file.Commit g))
+  pub spared : SparesTaken (left (device_in old)) (left (device_in new)) (shape_in old) (shape_in new)
+  pub tried : (t : TriedCommit) → event ≡ Event.Refused t → AlwaysTells bytes
+      → (IsFreshAhead (left (device_in old)) (shape_in old) → IsTriedCommit (left (device_in new)) (shape_in new) t)
+      × IsPromisedBy (bytes (device_in old)) (shape_in old) t
+
+-- What a refused commit of this text makes of commits: nothing, or it tried one of this text.
+abbrev pub GoesRefused : {D : Type 0} → (D → ToldFiles) → (D → FileName → FileContent → Type 0) → Text → LedgerOnDevice D → LedgerOnDevice D → Type 0
+GoesRefused bytes left text old new =
+    Goes bytes left Event.Other old new ⊎ ((t : TriedCommit) × (t.commit.text ≡ text) × Goes bytes left (Event.Refused t) old new)
+
+-- What a COMMIT of this text that is refused may have tried: a crash leaves no more of any commit's own file; or its generation is taken, and it
+-- tried a commit of this text, as `Goes` says. The arguments behind the text are the device and what memory had, before and after.
+abbrev pub MayHaveTried : {D : Type 0} → (D → ToldFiles) → (D → FileName → FileContent → Type 0) → Text → D → Shape → D → Shape → Type 0
+MayHaveTried bytes left text d s d' new =
+    SparesCommits (left d) (left d')
+    ⊎ ((t : TriedCommit) × (t.commit.text ≡ text) × (t.commit.generation ≡ s.next_generation) × (s.next_generation < new.next_generation)
+    × (IsLasting bytes left d s → AlwaysTells bytes → (IsFreshAhead (left d) s → IsTriedCommit (left d') new t) × IsPromisedBy (bytes d) s t))
 
 -- What a line makes of commits, by its reply: a COMMIT that was answered OK keeps one of this generation; one that was refused may have
--- begun the files of the generation that comes next; and no other line has to do with commits. (None is a line without a form.)
-abbrev pub GoesBy : {D : Type 0} → (D → FileName → FileContent → Type 0) → Option Said → Reply → LedgerOnDevice D → LedgerOnDevice D → Type 0
-GoesBy left (Some (Said.commit text)) (Ok (Answer.number g)) old new = Goes left (Event.Answered g) old new
-GoesBy left (Some (Said.commit text)) (Ok a) old new = ⊥
-GoesBy left (Some (Said.commit text)) (Err e) old new =
-    Goes left Event.Other old new ⊎ Goes left (Event.Refused (shape_in old).next_generation) old new
-GoesBy left said reply old new = Goes left Event.Other old new
+-- tried one of its text; and no other line has to do with commits. (None is a line without a form.)
+abbrev pub GoesBy : {D : Type 0} → (D → ToldFiles) → (D → FileName → FileContent → Type 0) → Option Said → Reply → LedgerOnDevice D → LedgerOnDevice D
+    → Type 0
+GoesBy bytes left (Some (Said.commit text)) (Ok (Answer.number g)) old new = Goes bytes left (Event.Answered g) old new
+GoesBy bytes left (Some (Said.commit text)) (Ok a) old new = ⊥
+GoesBy bytes left (Some (Said.commit text)) (Err e) old new = GoesRefused bytes left text old new
+GoesBy bytes left said reply old new = Goes bytes left Event.Other old new
 
 -- A crash may leave of each commit's own file but this one's what it could have left before.
 abbrev pub SparesOtherCommits : ℕ → (FileName → FileContent → Type 0) → (FileName → FileContent → Type 0) → Type 0
@@ -80,19 +104,20 @@ pub record Call (D : Type 0) : Type 0 where
   pub after : LedgerOnDevice D
 
 -- the calls lead from the one to the other
-abbrev pub IsHistory : {D : Type 0} → (D → FileName → FileContent → Type 0) → LedgerOnDevice D → List (Call D) → LedgerOnDevice D → Type 0
-IsHistory {D} left first [] last = ◌≡◌ {A = LedgerOnDevice D} last first
-IsHistory {D} left first (call ∷ calls) last = Goes left call.event first call.after × IsHistory left call.after calls last
+abbrev pub IsHistory : {D : Type 0} → (D → ToldFiles) → (D → FileName → FileContent → Type 0) → LedgerOnDevice D → List (Call D) → LedgerOnDevice D
+    → Type 0
+IsHistory {D} bytes left first [] last = ◌≡◌ {A = LedgerOnDevice D} last first
+IsHistory {D} bytes left first (call ∷ calls) last = Goes bytes left call.event first call.after × IsHistory bytes left call.after calls last
 
 -- what they had to do with commits
 abbrev pub events_of : {D : Type 0} → List (Call D) → List Event
 events_of calls = map (λ call. call.event) calls
 
--- a commit of the generation was refused, and none has been answered since
-pub record IsTried (events : List Event) (g : ℕ) : Type 0 where
+-- a commit was refused that tried this, and none has been answered since
+pub record IsTried (events : List Event) (t : TriedCommit) : Type 0 where
   pub before : List Event
   pub since : List Event
-  pub split : events ≡ before ++ Event.Refused g ∷ since
+  pub split : events ≡ before ++ Event.Refused t ∷ since
   pub none : All IsUnanswered since
 
 -- the generation of the last commit that was answered, if one was
@@ -127,22 +152,23 @@ image_tells image = λ q. Some (image q)
 -- ---- the laws
 
 -- The newest commit of a ledger is the last one that was answered, or else the one that it began with.
-abbrev pub NewestIsAnswered : {D : Type 0} → (D → FileName → FileContent → Type 0) → LedgerOnDevice D → Type 0
-NewestIsAnswered {D} left last =
-    (first : LedgerOnDevice D) (calls : List (Call D)) → IsHistory left first calls last → IsLastAnswered (newest_commit_in first) (events_of calls) (newest_commit_in last)
+abbrev pub NewestIsAnswered : {D : Type 0} → (D → ToldFiles) → (D → FileName → FileContent → Type 0) → LedgerOnDevice D → Type 0
+NewestIsAnswered {D} bytes left last =
+    (first : LedgerOnDevice D) (calls : List (Call D)) → IsHistory bytes left first calls last → IsLastAnswered (newest_commit_in first) (events_of calls) (newest_commit_in last)
 
--- Whatever a crash leaves, the newest commit that is found there has the generation of the ledger's newest one, or of one that was
--- refused since that was answered.
+-- Whatever a crash leaves, the newest commit that is found there has the generation of the ledger's newest one, or of one that was tried by a
+-- refused commit since that was answered; and what may be left of that is its own file, torn, and the files that it lists.
 abbrev pub FoundIsTried : {D : Type 0} → (D → ToldFiles) → (D → FileName → FileContent → Type 0) → LedgerOnDevice D → Type 0
 FoundIsTried {D} bytes left last =
-    (first : LedgerOnDevice D) (calls : List (Call D)) → AlwaysTells bytes → LeavesNoneAhead left first → IsHistory left first calls last
+    (first : LedgerOnDevice D) (calls : List (Call D)) → AlwaysTells bytes → LeavesNoneAhead left first → IsHistory bytes left first calls last
     → (image : FileName → FileContent) (g : ℕ) → IsCrashed (left (device_in last)) image → IsNewestCommit (image_tells image) g
-    → (newest_commit_in last ≡ Some g) ⊎ IsTried (events_of calls) g
+    → (newest_commit_in last ≡ Some g)
+    ⊎ ((t : TriedCommit) × (t.commit.generation ≡ g) × IsTried (events_of calls) t × LeavesTried (left (device_in last)) t)
 
 -- So its generation is below the one that comes next: no later commit gets it.
 abbrev pub FoundIsTaken : {D : Type 0} → (D → ToldFiles) → (D → FileName → FileContent → Type 0) → LedgerOnDevice D → Type 0
 FoundIsTaken {D} bytes left last =
-    (first : LedgerOnDevice D) (calls : List (Call D)) → AlwaysTells bytes → LeavesNoneAhead left first → IsHistory left first calls last
+    (first : LedgerOnDevice D) (calls : List (Call D)) → AlwaysTells bytes → LeavesNoneAhead left first → IsHistory bytes left first calls last
     → (image : FileName → FileContent) (g : ℕ) → IsCrashed (left (device_in last)) image → IsNewestCommit (image_tells image) g
     → g < (shape_in last).next_generation
 

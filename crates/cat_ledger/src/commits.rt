@@ -3,11 +3,10 @@
 //! Lucene's `IndexWriter.commit` with `setLiveCommitData`, under a `SnapshotDeletionPolicy` over a `KeepOnlyLastCommitDeletionPolicy`.
 ghost use Rattle.cat_ledger_laws.specs.lines.LineLaws.{Commits};
 ghost use Rattle.cat_base.specs.declared.refusal.Refusal.TheVariants.{Device, Memory, NoCommit, NoSnapshot, Spent};
-ghost use Rattle.cat_ledger.specs.Histories.{Event, Goes, SparesOtherCommits};
+ghost use Rattle.cat_ledger.specs.Histories.{Event, Goes, GoesRefused, MayHaveTried, SparesOtherCommits};
 ghost use Rattle.cat_ledger.specs.Lasting.{IsCarried, IsLasting, OwnComesLast};
 ghost use Rattle.cat_ledger.specs.Ledgers.{DoesCall, Spares, device_in, policy_in, shape_in};
 ghost use Rattle.cat_ledger.specs.Refusals.{KeepsMerge};
-ghost use Rattle.cat_ledger.specs.upkeep.Spared.{SparesCommits};
 ghost use Rattle.std.specs.Prelude.{Err, IfErr, IfOk, None, Ok, OnErr, OnOk, Some, ℕ, ◌-◌, ◌<◌, ◌≡◌, ◌≤◌, ◌⊎◌};
 ghost use Rattle.cat_directory.specs.declared.name.FileName.{FileName};
 ghost use Rattle.cat_model.specs.Forms.{IsCommitText};
@@ -50,8 +49,7 @@ fn flush_and_commit<D: Directory>(
         (D.bytes device.new) (D.may_leave device.new) core.new.leaves }
     ensures newest { IfOk result (λ g. newest_generation core.new.commits ≡ Some g) }
     ensures next { OnOk result (core.old.next_generation < core.new.next_generation) }
-    ensures taken { OnErr result ((core.old.next_generation < core.new.next_generation)
-        ⊎ SparesCommits (D.may_leave device.old) (D.may_leave device.new)) }
+    ensures tried { OnErr result (MayHaveTried D.bytes D.may_leave text.now device.old core.old device.new core.new) }
     ensures lasts { OnOk result (IsLasting D.bytes D.may_leave device.old core.old
         → IsLasting D.bytes D.may_leave device.new core.new) }
     ensures spent { IfErr result (λ e. e ≡ Spent → MayNotFlush core.old) }
@@ -108,9 +106,8 @@ impl<D: Directory + Shelf> Ledger<D> {
         ensures memory { IfErr result (λ e. e ≡ Memory → D.fault_count (device_in self.new) ≡ D.fault_count (device_in self.old)) }
         ensures can { D.can_fail (device_in self.new) → D.can_fail (device_in self.old) }
         ensures rises { D.fault_count (device_in self.old) ≤ D.fault_count (device_in self.new) }
-        ensures answered { IfOk result (λ g. Goes D.may_leave (Event.Answered g) self.old self.new) }
-        ensures refused { OnErr result (Goes D.may_leave Event.Other self.old self.new
-            ⊎ Goes D.may_leave (Event.Refused (shape_in self.old).next_generation) self.old self.new) }
+        ensures answered { IfOk result (λ g. Goes D.bytes D.may_leave (Event.Answered g) self.old self.new) }
+        ensures refused { OnErr result (GoesRefused D.bytes D.may_leave text.now self.old self.new) }
         ensures policy { policy_in self.new ≡ policy_in self.old }
     {
         if let Err(refusal) = judge_commit_text(text) {
@@ -138,7 +135,7 @@ impl<D: Directory + Shelf> Ledger<D> {
         ensures refusal { IfErr result (λ e. (e ≡ NoCommit) ⊎ (e ≡ Spent) ⊎ (e ≡ Memory)) }
         ensures err { OnErr result (self.new ≡ self.old) }
         ensures same { device_in self.new ≡ device_in self.old }
-        ensures history { Goes D.may_leave Event.Other self.old self.new }
+        ensures history { Goes D.bytes D.may_leave Event.Other self.old self.new }
         ensures policy { policy_in self.new ≡ policy_in self.old }
     {
         let generation = self.core.snapshot()?;
@@ -159,7 +156,7 @@ impl<D: Directory + Shelf> Ledger<D> {
         ensures refusal { IfErr result (λ e. (e ≡ NoSnapshot) ⊎ (e ≡ Memory)) }
         ensures err { OnErr result (self.new ≡ self.old) }
         ensures same { device_in self.new ≡ device_in self.old }
-        ensures history { Goes D.may_leave Event.Other self.old self.new }
+        ensures history { Goes D.bytes D.may_leave Event.Other self.old self.new }
         ensures policy { policy_in self.new ≡ policy_in self.old }
     {
         let left = self.core.unsnapshot(generation)?;

@@ -91,15 +91,15 @@ impl<D: Directory + Shelf> Ledger<D> {
     /// - The newest commit is the last one that was answered, or where none was, the one that the first ledger had.
     /// - Where such directories always tell of their files, and a crash left no commit ahead of the first ledger's newest one, as
     ///   once it was [opened](Ledger::open): in whatever a crash leaves at this moment, the newest commit that is found is that one,
-    ///   or one that was refused after it; and one is found, where the ledger has one. (Whether opening accepts a refused one, or
-    ///   finds it damaged, is for its bytes to say.) Its generation isn't given out again.
+    ///   or one that was refused after it; and one is found, where the ledger has one. Of a refused one a crash leaves its own file,
+    ///   torn or whole, and the files that it lists as they were, or not at all. Its generation isn't given out again.
     /// - Once the files of such refused commits are taken away, that newest commit is the one that is found, and each file that it
     ///   needs is byte for byte as the directory told of it.
     ///
     /// Lucene's `IndexWriter.commit`: after a crash `DirectoryReader.open` finds the last commit that returned, or one that was on
     /// its way.
     pub fn histories_last(&self)
-        ensures answered { NewestIsAnswered D.may_leave self.now }
+        ensures answered { NewestIsAnswered D.bytes D.may_leave self.now }
         ensures tried { FoundIsTried D.bytes D.may_leave self.now }
         ensures taken { FoundIsTaken D.bytes D.may_leave self.now }
         ensures lost { NoneIsLost D.bytes D.may_leave self.now }

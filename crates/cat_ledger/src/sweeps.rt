@@ -46,7 +46,7 @@ impl<D: Directory + Shelf> Ledger<D> {
         ensures quiet { IfErr result (λ e. e ≡ Memory → D.fault_count (device_in self.new) ≡ D.fault_count (device_in self.old)) }
         ensures can { D.can_fail (device_in self.new) → D.can_fail (device_in self.old) }
         ensures rises { D.fault_count (device_in self.old) ≤ D.fault_count (device_in self.new) }
-        ensures history { Goes D.may_leave Event.Other self.old self.new }
+        ensures history { Goes D.bytes D.may_leave Event.Other self.old self.new }
         ensures policy { policy_in self.new ≡ policy_in self.old }
     {
         self.core.sweep(&mut self.device)

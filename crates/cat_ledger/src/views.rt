@@ -2,7 +2,7 @@
 //!
 //! Lucene's `SearcherLifetimeManager`, with `IndexWriter.getReader` for the view of now.
 ghost use Rattle.cat_directory.specs.Devices.{CountsOne, CountsReading, NoMore};
-ghost use Rattle.cat_base.specs.declared.refusal.Refusal.TheVariants.{Damaged, Device, Full, Gone, Memory, Spent};
+ghost use Rattle.cat_base.specs.declared.refusal.Refusal.TheVariants.{Damaged, Device, Full, Gone, Memory, NotHeld, Spent};
 ghost use Rattle.cat_ledger.specs.Histories.{Event, Goes};
 ghost use Rattle.cat_ledger.specs.Ledgers.{DoesCall, Spares, device_in, policy_in, shape_in};
 ghost use Rattle.cat_ledger.specs.Refusals.{KeepsMerge};
@@ -23,7 +23,7 @@ ghost use Rattle.cat_ledger_laws.specs.lines.ReadLaws.{IsRecordedAs};
 ghost use Rattle.cat_model.specs.Run.{is_full};
 ghost use Rattle.std.specs.List.{list_any};
 ghost use Rattle.cat_directory.specs.Names.{name_of};
-ghost use Rattle.cat_model.specs.View.{records_in};
+ghost use Rattle.cat_model.specs.View.{View, records_in};
 ghost use Rattle.cat_model.specs.Answer.{HasNoLineFeed, stored};
 ghost use Rattle.cat_ledger_laws.specs.shape.Steps.{tokens_of};
 ghost use Rattle.cat_ledger.specs.declared.views.Grant.{Grant};
@@ -170,7 +170,7 @@ impl<D: Directory + Shelf> Ledger<D> {
         ensures rises { D.fault_count (device_in self.old) ≤ D.fault_count (device_in self.new) }
         ensures counted { IfErr result (λ e. e ≡ Device → CountsOne (D.fault_count (device_in self.old)) (D.fault_count (device_in self.new))) }
         ensures memory { IfErr result (λ e. e ≡ Memory → D.fault_count (device_in self.new) ≡ D.fault_count (device_in self.old)) }
-        ensures history { Goes D.may_leave Event.Other self.old self.new }
+        ensures history { Goes D.bytes D.may_leave Event.Other self.old self.new }
         ensures policy { policy_in self.new ≡ policy_in self.old }
     {
         let token = self.core.count();
@@ -198,7 +198,7 @@ impl<D: Directory + Shelf> Ledger<D> {
         ensures err { OnErr result (self.new ≡ self.old) }
         ensures same { device_in self.new ≡ device_in self.old }
         ensures refusal { IfErr result (λ e. (e ≡ Gone) ⊎ (e ≡ Memory)) }
-        ensures history { Goes D.may_leave Event.Other self.old self.new }
+        ensures history { Goes D.bytes D.may_leave Event.Other self.old self.new }
         ensures policy { policy_in self.new ≡ policy_in self.old }
     {
         let token = token.unwrap_or(self.core.newest_token());
@@ -227,19 +227,65 @@ impl<D: Directory + Shelf> Ledger<D> {
         ensures wrong { OnErr result (hold.session ≡ session → has_hold (shape_in self.old).holds session hold.view.token ≡ false) }
         ensures err { OnErr result (self.new ≡ self.old) }
         ensures same { device_in self.new ≡ device_in self.old }
-        ensures history { Goes D.may_leave Event.Other self.old self.new }
+        ensures history { Goes D.bytes D.may_leave Event.Other self.old self.new }
         ensures policy { policy_in self.new ≡ policy_in self.old }
     {
         let token = hold.token();
         if hold.session() != session {
             return Err(hold);
         }
-        if !self.core.is_held_by(session, token) {
+        if !self.let_go(session, token) {
             return Err(hold);
         }
-        let _had = self.core.let_go(session, token);
         hold.give_up();
         Ok(Released { session, token })
+    }
+
+    /// Lets the session hold the view of the token, or of the newest one, until it [lets go](Ledger::let_go) of it, and answers the
+    /// token: the ledger keeps the right itself, and [lends the view](Ledger::held_view). (Lucene: `SearcherLifetimeManager.acquire`.)
+    ///
+    /// Where the session holds the token already nothing changes. [`Refusal::Gone`] where no view is recorded under the token; else
+    /// [`Refusal::Memory`], but never where the session holds the token already. An error changes nothing.
+    pub fn hold(&mut self, session: SessionNo, token: Option<Token>) -> Result<Token, Refusal>
+        ensures asked { IfOk result (λ t. IsAsked (shape_in self.old) token t) }
+        ensures held { IfOk result (λ t. shape_in self.new ≡ holding session t (shape_in self.old)) }
+        ensures gone { IfErr result (λ e. e ≡ Gone → (t : ℕ) → IsAsked (shape_in self.old) token t → ⊥) }
+        ensures due { IfErr result (λ e. e ≡ Memory → (t : ℕ) × IsAsked (shape_in self.old) token t
+            × (has_hold (shape_in self.old).holds session t ≡ false)) }
+        ensures err { OnErr result (self.new ≡ self.old) }
+        ensures same { device_in self.new ≡ device_in self.old }
+        ensures refusal { IfErr result (λ e. (e ≡ Gone) ⊎ (e ≡ Memory)) }
+        ensures history { Goes D.bytes D.may_leave Event.Other self.old self.new }
+        ensures policy { policy_in self.new ≡ policy_in self.old }
+    {
+        let token = token.unwrap_or(self.core.newest_token());
+        if !self.core.is_recorded(token) {
+            return Err(Refusal::Gone);
+        }
+        if self.core.is_held_by(session, token) {
+            return Ok(token);
+        }
+        if let Err(AllocError) = self.core.hold(session, token) {
+            return Err(Refusal::Memory);
+        }
+        Ok(token)
+    }
+
+    /// Ends the session's right to the view of the token, which may go then, and answers whether it had one; where it had none nothing
+    /// changes. It takes no memory. (Lucene: `SearcherLifetimeManager.release`.)
+    pub fn let_go(&mut self, session: SessionNo, token: Token) -> bool
+        ensures had { result ≡ has_hold (shape_in self.old).holds session token }
+        ensures held { result ≡ true → shape_in self.new ≡ letting_go session token (shape_in self.old) }
+        ensures none { result ≡ false → self.new ≡ self.old }
+        ensures same { device_in self.new ≡ device_in self.old }
+        ensures history { Goes D.bytes D.may_leave Event.Other self.old self.new }
+        ensures policy { policy_in self.new ≡ policy_in self.old }
+    {
+        if !self.core.is_held_by(session, token) {
+            return false;
+        }
+        let _had = self.core.let_go(session, token);
+        true
     }
 
     /// The view that the session has a right to under the token; none where it holds no such token. (Lucene: the searcher that
@@ -247,8 +293,7 @@ impl<D: Directory + Shelf> Ledger<D> {
     pub fn held_view(&self, session: SessionNo, token: Token) -> Option<&View>
         ensures some { IfSome result (λ v. (has_hold (shape_in self.now).holds session token ≡ true)
             × IsRecordedAs (shape_in self.now).views token v.now) }
-        ensures none { IfNone result (has_hold (shape_in self.now).holds session token ≡ true
-            → find (λ v. v.token == token) (shape_in self.now).views ≡ None) }
+        ensures none { IfNone result (has_hold (shape_in self.now).holds session token ≡ false) }
     {
         if !self.core.is_held_by(session, token) {
             return None;
@@ -263,39 +308,58 @@ impl<D: Directory + Shelf> Ledger<D> {
         ensures ok { OnOk result (DoesCall D.bytes (Pruned count) self.old self.new) }
         ensures err { OnErr result (self.new ≡ self.old) }
         ensures same { device_in self.new ≡ device_in self.old }
-        ensures history { Goes D.may_leave Event.Other self.old self.new }
+        ensures history { Goes D.bytes D.may_leave Event.Other self.old self.new }
         ensures policy { policy_in self.new ≡ policy_in self.old }
     {
         let went = self.core.prune(count)?;
         Ok(went)
     }
 
-    /// The text that the item of this id came as, in the held view; none where no live row has the id. (Lucene:
-    /// `StoredFields.document`.) It is what [`Hold::get`] answers on this ledger's directory, whose files stay as they are, also in
-    /// a crash.
+    /// The text that the item of this id came as, in the view that the session holds under the token; none where no live row has the
+    /// id. (Lucene: `StoredFields.document`.) It is what [`View::get`] answers on this ledger's directory, whose files stay as they
+    /// are, also in a crash.
     ///
-    /// [`Refusal::Damaged`] if the file with the text is absent, ends before the text does, or has a line feed in it.
-    /// [`Refusal::Device`] if the directory fails; else [`Refusal::Memory`], which never hides that the file is absent or ends
-    /// too soon.
-    pub fn source(&mut self, hold: &Hold, id: &str) -> Result<Option<Vec<u8>>, Refusal>
-        ensures ok { IfOk result (λ found. (files : ℕ → List ℕ) → TellsSource (D.bytes (device_in self.old)) files hold.now.view id.now
-            → option_map (λ bytes. bytes.items) found ≡ stored (records_in files hold.now.view) id.now) }
-        ensures whole { IfOk result (λ found. option_map (λ bytes. length bytes.items) found ≡ stored_length hold.now.view id.now) }
+    /// [`Refusal::NotHeld`] where the session doesn't hold the token, and only then. [`Refusal::Damaged`] if the file with the text is
+    /// absent, ends before the text does, or has a line feed in it. [`Refusal::Device`] if the directory fails; else
+    /// [`Refusal::Memory`], which never hides that the file is absent or ends too soon.
+    pub fn source(
+        &mut self,
+        session: SessionNo,
+        token: Token,
+        id: &str,
+    ) -> Result<Option<Vec<u8>>, Refusal>
+        ensures held { OnOk result ((has_hold (shape_in self.old).holds session token ≡ true)
+            × ((view : View) × IsRecordedAs (shape_in self.old).views token view)) }
+        ensures unheld { has_hold (shape_in self.old).holds session token ≡ false → (result ≡ Err NotHeld) × (self.new ≡ self.old) }
+        ensures ok { IfOk result (λ found. (view : View) → IsRecordedAs (shape_in self.old).views token view → (files : ℕ → List ℕ)
+            → TellsSource (D.bytes (device_in self.old)) files view id.now
+            → option_map (λ bytes. bytes.items) found ≡ stored (records_in files view) id.now) }
+        ensures whole { IfOk result (λ found. (view : View) → IsRecordedAs (shape_in self.old).views token view
+            → option_map (λ bytes. length bytes.items) found ≡ stored_length view id.now) }
         ensures one_line { IfOk result (λ found. HasNoLineFeed (option_map (λ bytes. bytes.items) found)) }
-        ensures none { stored_length hold.now.view id.now ≡ None → result ≡ Ok None }
-        ensures damaged { IfErr result (λ e. e ≡ Damaged → (files : ℕ → List ℕ)
-            → TellsSource (D.bytes (device_in self.old)) files hold.now.view id.now → HoldsSource files hold.now.view id.now → ⊥) }
-        ensures due { IfErr result (λ e. e ≡ Memory → MayReachSource (D.bytes (device_in self.old)) hold.now.view id.now) }
+        ensures none { has_hold (shape_in self.old).holds session token ≡ true → (view : View)
+            → IsRecordedAs (shape_in self.old).views token view → stored_length view id.now ≡ None → result ≡ Ok None }
+        ensures damaged { IfErr result (λ e. e ≡ Damaged → (view : View) → IsRecordedAs (shape_in self.old).views token view
+            → (files : ℕ → List ℕ) → TellsSource (D.bytes (device_in self.old)) files view id.now → HoldsSource files view id.now → ⊥) }
+        ensures due { IfErr result (λ e. e ≡ Memory → (view : View) → IsRecordedAs (shape_in self.old).views token view
+            → MayReachSource (D.bytes (device_in self.old)) view id.now) }
         ensures shape { shape_in self.new ≡ shape_in self.old }
         ensures same { (q : FileName) → D.bytes (device_in self.new) q ≡ D.bytes (device_in self.old) q }
         ensures crash { (q : FileName) → NoMore (D.may_leave (device_in self.old) q) (D.may_leave (device_in self.new) q) }
-        ensures counted { CountsReading (D.fault_count (device_in self.old)) (D.fault_count (device_in self.new)) result }
+        ensures counted { has_hold (shape_in self.old).holds session token ≡ true
+            → CountsReading (D.fault_count (device_in self.old)) (D.fault_count (device_in self.new)) result }
         ensures device { IfErr result (λ e. e ≡ Device → D.can_fail (device_in self.old)) }
         ensures can { D.can_fail (device_in self.new) → D.can_fail (device_in self.old) }
         ensures rises { D.fault_count (device_in self.old) ≤ D.fault_count (device_in self.new) }
-        ensures history { Goes D.may_leave Event.Other self.old self.new }
+        ensures history { Goes D.bytes D.may_leave Event.Other self.old self.new }
         ensures policy { policy_in self.new ≡ policy_in self.old }
     {
-        hold.get(self.alloc, &mut self.device, id)
+        if !self.core.is_held_by(session, token) {
+            return Err(Refusal::NotHeld);
+        }
+        let Some(view) = self.core.view_at(token) else {
+            unreachable!();
+        };
+        view.get(self.alloc, &mut self.device, id)
     }
 }

@@ -56,7 +56,7 @@ impl<D: Directory + Shelf> Ledger<D> {
         ensures memory { IfErr result (λ e. e ≡ Memory → D.fault_count (device_in self.new) ≡ D.fault_count (device_in self.old)) }
         ensures can { D.can_fail (device_in self.new) → D.can_fail (device_in self.old) }
         ensures rises { D.fault_count (device_in self.old) ≤ D.fault_count (device_in self.new) }
-        ensures history { Goes D.may_leave Event.Other self.old self.new }
+        ensures history { Goes D.bytes D.may_leave Event.Other self.old self.new }
         ensures policy { policy_in self.new ≡ policy_in self.old }
     {
         if !self.core.schema().accepts(&item) {
@@ -87,7 +87,7 @@ impl<D: Directory + Shelf> Ledger<D> {
         ensures err { OnErr result (self.new ≡ self.old) }
         ensures same { device_in self.new ≡ device_in self.old }
         ensures refusal { IfErr result (λ e. (e ≡ Memory) ⊎ (e ≡ Spent)) }
-        ensures history { Goes D.may_leave Event.Other self.old self.new }
+        ensures history { Goes D.bytes D.may_leave Event.Other self.old self.new }
         ensures policy { policy_in self.new ≡ policy_in self.old }
     {
         if self.core.count() >= LAST_NUMBER {
@@ -110,7 +110,7 @@ impl<D: Directory + Shelf> Ledger<D> {
         ensures err { OnErr result (self.new ≡ self.old) }
         ensures same { device_in self.new ≡ device_in self.old }
         ensures refusal { IfErr result (λ e. (e ≡ Memory) ⊎ (e ≡ Spent)) }
-        ensures history { Goes D.may_leave Event.Other self.old self.new }
+        ensures history { Goes D.bytes D.may_leave Event.Other self.old self.new }
         ensures policy { policy_in self.new ≡ policy_in self.old }
     {
         if self.core.count() >= LAST_NUMBER {

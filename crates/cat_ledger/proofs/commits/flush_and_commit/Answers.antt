@@ -1,4 +1,5 @@
-use Rattle.std.proofs.Common.{inl, inr, refl, subst, sym, arith, ◌∙◌}
+use Rattle.std.proofs.Common.{inl, inr, refl, subst, arith, ◌∙◌, ◌≤◌}
+use Rattle.cat_model.specs.Limits.{last_number}
 use Rattle.cat_directory.specs.Devices.{CountsOne}
 use Rattle.cat_ledger_laws.specs.model.Calls.{Committed, Flushes}
 use Rattle.cat_ledger.proofs.Lasting.{call_keeps, carried_on, commit_lasts, lets_flush}
@@ -10,7 +11,7 @@ use Rattle.cat_ledger_laws.specs.shape.CommitLaws.{names_begun}
 use Rattle.cat_ledger.proofs.Histories.{commit_spares_others, newest_committed, next_committed}
 use Rattle.cat_ledger.proofs.Ordered.{committed_leaves, flushed_listed, ordered_behind, own_untouched}
 use Rattle.cat_ledger.proofs.Synced.{synced_stands}
-use Rattle.cat_ledger.specs.upkeep.Spared.{SparesCommits}
+use Rattle.cat_ledger.proofs.Trying.{may_have_tried}
 use Rattle.cat_ledger.proofs.Refused.{given_up_leaves, goes_on, goes_on_behind}
 use Rattle.cat_ledger.proofs.commits.flush_and_commit.Goals as goal
 
@@ -81,15 +82,22 @@ returns-in-Err-commit-clause-commits g c =
     (commit_spares_others c.flush.new.core c.args.core.now.next_generation (g.D.Holder.may_leave c.flush.new.device) (g.D.Holder.may_leave c.commit.new.device) c.in_default.ensures.generation
     c.commit.ensures.crash n other e after)
 
--- no file of a commit was begun by the flush, and by the commit only where its generation was taken
-pub returns-in-Err-clause-taken : goal.returns-in-Err-clause-taken
-returns-in-Err-clause-taken g c = inr c.flush.ensures.commits
+-- no file of a commit was begun by the flush, and by the commit only where it tried one
+pub returns-in-Err-clause-tried : goal.returns-in-Err-clause-tried
+returns-in-Err-clause-tried g c = inl c.flush.ensures.commits
 
-pub returns-in-Err-commit-clause-taken : goal.returns-in-Err-commit-clause-taken
-returns-in-Err-commit-clause-taken g c = elim c.in-Err-commit.ensures.taken [
-  | inl next ↦ inl (omega (arith, next, c.in_default.ensures.generation))
-  | inr same ↦ inr (subst (λ d. SparesCommits (g.D.Holder.may_leave c.args.device.now) (g.D.Holder.may_leave d)) (sym same) c.flush.ensures.commits)
-]
+pub returns-in-Err-commit-clause-tried : goal.returns-in-Err-commit-clause-tried
+returns-in-Err-commit-clause-tried g c =
+    let left = g.D.Holder.may_leave in
+    let mid = c.flush.new.core in
+    let room : mid.next_generation ≤ last_number = omega (arith, c.requires.left, c.in_default.ensures.generation) in
+    may_have_tried g.D.Holder.bytes left g.met.D.Holder.may_stay c.needed_are_synced.ensures c.args.text.now c.args.device.now c.flush.new.device c.commit.new.device
+    c.args.core.now mid c.commit.new.self c.count-count.ensures.shape c.in_default.ensures.made c.flush.ensures.crash c.flush.ensures.commits
+    (λ n other e after. c.flush.ensures.commits n e
+    (commit_spares_others mid c.args.core.now.next_generation (left c.flush.new.device) (left c.commit.new.device) c.in_default.ensures.generation
+    c.commit.ensures.crash n other e after))
+    (c.commit.ensures.form room) room c.in-Err-commit.ensures.err c.commit.ensures.crash c.commit.ensures.torn c.in-Err-commit.ensures.taken c.commit.ensures.order
+    c.commit.ensures.behind
 
 pub returns-in-Ok-clause-newest : goal.returns-in-Ok-clause-newest
 returns-in-Ok-clause-newest g c =

@@ -43,18 +43,20 @@ returns-then-not-is_recorded-clause-gone g c =
 
 pub returns-then-not-is_recorded-clause-history : goal.returns-then-not-is_recorded-clause-history
 returns-then-not-is_recorded-clause-history g c =
-    nothing_goes g.D.Holder.may_leave c.args.self.now
+    nothing_goes g.D.Holder.bytes g.D.Holder.may_leave c.args.self.now
 
 pub returns-then-is_held_by-clause-history : goal.returns-then-is_held_by-clause-history
 returns-then-is_held_by-clause-history g c =
-    nothing_goes g.D.Holder.may_leave c.args.self.now
+    nothing_goes g.D.Holder.bytes g.D.Holder.may_leave c.args.self.now
 
 pub returns-in-Err-clause-history : goal.returns-in-Err-clause-history
 returns-in-Err-clause-history g c =
-    rw (← c.self.view_is) (memory_goes g.D.Holder.may_leave c.self.inside.device c.self.inside.core c.grant_right.new.core c.self.inside.policy c.self.inside.policy
-    (ap (λ (x : Shape). newest_generation x.commits) c.in-Err.ensures.err) (ap (λ (x : Shape). x.next_generation) c.in-Err.ensures.err))
+    rw (← c.self.view_is) (memory_goes g.D.Holder.bytes g.D.Holder.may_leave c.self.inside.device c.self.inside.core c.grant_right.new.core c.self.inside.policy c.self.inside.policy
+    (ap (λ (x : Shape). newest_generation x.commits) c.in-Err.ensures.err) (ap (λ (x : Shape). x.next_generation) c.in-Err.ensures.err)
+    (ap (λ (x : Shape). x.next_segment) c.in-Err.ensures.err) (ap (λ (x : Shape). x.merging) c.in-Err.ensures.err))
 
 pub returns-clause-history : goal.returns-clause-history
 returns-clause-history g c =
-    rw (← c.self.view_is) (memory_goes g.D.Holder.may_leave c.self.inside.device c.self.inside.core c.grant_right.new.core c.self.inside.policy c.self.inside.policy
-    (ap (λ (x : Shape). newest_generation x.commits) c.in-Ok.ensures.ok) (ap (λ (x : Shape). x.next_generation) c.in-Ok.ensures.ok))
+    rw (← c.self.view_is) (memory_goes g.D.Holder.bytes g.D.Holder.may_leave c.self.inside.device c.self.inside.core c.grant_right.new.core c.self.inside.policy c.self.inside.policy
+    (ap (λ (x : Shape). newest_generation x.commits) c.in-Ok.ensures.ok) (ap (λ (x : Shape). x.next_generation) c.in-Ok.ensures.ok)
+    (ap (λ (x : Shape). x.next_segment) c.in-Ok.ensures.ok) (ap (λ (x : Shape). x.merging) c.in-Ok.ensures.ok))

@@ -1,4 +1,4 @@
-use Rattle.std.proofs.Common.{◌≡◌, ◌≤◌, Ok, arith, inl, inr}
+use Rattle.std.proofs.Common.{◌≡◌, ◌≤◌, Ok, arith, inl}
 use Rattle.std.specs.Prelude.{◌⊎◌}
 use Rattle.cat_base.specs.declared.refusal.Refusal.TheVariants.{Device, Memory}
 use Rattle.cat_model.specs.Heard.{commit_text_of}
@@ -9,7 +9,9 @@ use Rattle.cat_ledger.proofs.Made.{untouched}
 use Rattle.cat_ledger.proofs.Results.{if_err, on_ok, one_way}
 use Rattle.cat_ledger.proofs.Ordered.{nothing_ordered}
 use Rattle.cat_ledger.specs.Lasting.{IsLasting}
+use Rattle.cat_ledger_laws.specs.lines.LineLaws.{Commits}
 use Rattle.cat_ledger_laws.specs.model.Replies.{IsLeft}
+use Rattle.cat_ledger_laws.proofs.model.Taking.{takes_left}
 use Rattle.cat_ledger_laws.specs.shape.Ties.{Makes}
 use Rattle.cat_ledger.proofs.Histories.{answered_goes, if_answered, nothing_goes, on_both, refused_or_other}
 use Rattle.cat_ledger.specs.Histories.{Event, Goes}
@@ -41,10 +43,10 @@ pub returns-clause-err : goal.returns-clause-err
 returns-clause-err g c = rw (← c.self.view_is) c.flush_and_commit.ensures.err
 
 pub returns-in-Err-clause-refused : goal.returns-in-Err-clause-refused
-returns-in-Err-clause-refused g c = inl (nothing_goes g.D.Holder.may_leave c.args.self.now)
+returns-in-Err-clause-refused g c = inl (nothing_goes g.D.Holder.bytes g.D.Holder.may_leave c.args.self.now)
 
 pub returns-then-next_generation-gt-LAST_NUMBER-clause-refused : goal.returns-then-next_generation-gt-LAST_NUMBER-clause-refused
-returns-then-next_generation-gt-LAST_NUMBER-clause-refused g c = inl (nothing_goes g.D.Holder.may_leave c.args.self.now)
+returns-then-next_generation-gt-LAST_NUMBER-clause-refused g c = inl (nothing_goes g.D.Holder.bytes g.D.Holder.may_leave c.args.self.now)
 
 pub returns-clause-answered : goal.returns-clause-answered
 returns-clause-answered g c =
@@ -53,11 +55,12 @@ returns-clause-answered g c =
     let left = g.D.Holder.may_leave in
     let s = c.self.inside.core in
     let policy = c.self.inside.policy in
-    rw (← c.self.view_is) (if_answered
-    (λ n. Goes left (Event.Answered n) (record { device = c.self.inside.device; core = s; policy = policy }) (record { device = done.new.device; core = done.new.core; policy = policy }))
+    rw (← c.self.view_is) (if_answered (Makes (Commits c.args.text.now) (bytes c.self.inside.device) s (bytes done.new.device) done.new.core)
+    (λ n. Goes bytes left (Event.Answered n) (record { device = c.self.inside.device; core = s; policy = policy }) (record { device = done.new.device; core = done.new.core; policy = policy }))
     s.next_generation done.new.core.next_generation (newest_generation done.new.core.commits) done.result done.ensures.number done.ensures.newest done.ensures.next
-    (λ n number newest next. answered_goes left bytes c.self.inside.device done.new.device s done.new.core policy policy n c.self.invariant.carried number newest next
-    done.ensures.commits))
+    done.ensures.ok
+    (λ n number newest next makes. answered_goes bytes left c.args.text.now c.self.inside.device done.new.device s done.new.core policy policy n c.self.invariant.carried
+    number newest next done.ensures.commits makes (λ q old apart. done.ensures.crash q old)))
 
 pub returns-clause-refused : goal.returns-clause-refused
 returns-clause-refused g c =
@@ -67,8 +70,8 @@ returns-clause-refused g c =
     let s = c.self.inside.core in
     let policy = c.self.inside.policy in
     rw (← c.self.view_is) (on_both done.result
-    (λ made taken. refused_or_other left bytes IsLeft lets_left c.self.inside.device done.new.device s done.new.core policy policy made c.self.invariant.carried taken
-    done.ensures.commits) done.ensures.err done.ensures.taken)
+    (λ made tried. refused_or_other bytes left IsLeft lets_left takes_left c.self.inside.device done.new.device s done.new.core policy policy made
+    c.self.invariant.carried (λ q old apart. done.ensures.crash q old) c.args.text.now tried done.ensures.commits c.self.invariant) done.ensures.err done.ensures.tried)
 
 pub returns-clause-device : goal.returns-clause-device
 returns-clause-device g c = λ formed. rw (← c.self.view_is) (c.flush_and_commit.ensures.device c.self.invariant.carried)

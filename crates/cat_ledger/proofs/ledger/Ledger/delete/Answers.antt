@@ -24,9 +24,10 @@ returns-clause-ok g c =
 
 pub returns-then-count-ge-LAST_NUMBER-clause-history : goal.returns-then-count-ge-LAST_NUMBER-clause-history
 returns-then-count-ge-LAST_NUMBER-clause-history g c =
-    nothing_goes g.D.Holder.may_leave c.args.self.now
+    nothing_goes g.D.Holder.bytes g.D.Holder.may_leave c.args.self.now
 
 pub returns-clause-history : goal.returns-clause-history
 returns-clause-history g c =
-    rw (← c.self.view_is) (memory_goes g.D.Holder.may_leave c.self.inside.device c.self.inside.core c.delete.new.self c.self.inside.policy c.self.inside.policy
-    (ap (λ (x : Shape). newest_generation x.commits) c.in_ok-delete.ensures.ok) (ap (λ (x : Shape). x.next_generation) c.in_ok-delete.ensures.ok))
+    rw (← c.self.view_is) (memory_goes g.D.Holder.bytes g.D.Holder.may_leave c.self.inside.device c.self.inside.core c.delete.new.self c.self.inside.policy c.self.inside.policy
+    (ap (λ (x : Shape). newest_generation x.commits) c.in_ok-delete.ensures.ok) (ap (λ (x : Shape). x.next_generation) c.in_ok-delete.ensures.ok)
+    (ap (λ (x : Shape). x.next_segment) c.in_ok-delete.ensures.ok) (ap (λ (x : Shape). x.merging) c.in_ok-delete.ensures.ok))

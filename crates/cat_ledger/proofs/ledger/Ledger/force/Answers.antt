@@ -5,7 +5,9 @@ use Rattle.cat_ledger.specs.upkeep.News.{news_of}
 use Rattle.cat_ledger.proofs.Lasting.{call_keeps, lets_left, lets_maintain}
 use Rattle.cat_ledger.proofs.Results.{either_way, if_ok}
 use Rattle.cat_ledger.specs.Lasting.{IsLasting}
-use Rattle.cat_ledger.proofs.Histories.{call_goes, or_gone}
+use Rattle.cat_ledger.proofs.Histories.{call_goes}
+use Rattle.cat_ledger.proofs.Taken.{takes_maintain}
+use Rattle.cat_ledger_laws.proofs.model.Taking.{takes_left}
 use Rattle.cat_ledger.specs.Histories.{Event, Goes}
 use Rattle.cat_ledger.proofs.ledger.Ledger.force.Goals as goal
 
@@ -34,13 +36,12 @@ returns-clause-history g c =
     let policy = c.self.inside.policy in
     let bytes = g.D.Holder.bytes in
     let left = g.D.Holder.may_leave in
-    let spared = or_gone (left c.self.inside.device) (left done.new.device) done.ensures.commits in
     rw (← c.self.view_is) (either_way
-    (Goes left Event.Other (record { device = c.self.inside.device; core = c.self.inside.core; policy = policy }) (record { device = done.new.device; core = done.new.core; policy = policy }))
+    (Goes bytes left Event.Other (record { device = c.self.inside.device; core = c.self.inside.core; policy = policy }) (record { device = done.new.device; core = done.new.core; policy = policy }))
     (Makes IsLeft (bytes c.self.inside.device) c.self.inside.core (bytes done.new.device) done.new.core) done.result done.ensures.ok done.ensures.err
-    (λ news makes. call_goes left bytes (Maintains policy Chore.force (news_of news)) (lets_maintain policy Chore.force (news_of news)) c.self.inside.device
-    done.new.device c.self.inside.core done.new.core policy policy (makes policy) c.self.invariant.carried spared)
-    (λ made. call_goes left bytes IsLeft lets_left c.self.inside.device done.new.device c.self.inside.core done.new.core policy policy made c.self.invariant.carried spared))
+    (λ news makes. call_goes bytes left (Maintains policy Chore.force (news_of news)) (lets_maintain policy Chore.force (news_of news)) (takes_maintain policy Chore.force (news_of news)) c.self.inside.device
+    done.new.device c.self.inside.core done.new.core policy policy (makes policy) c.self.invariant.carried (λ q old apart. done.ensures.crash q old) done.ensures.commits)
+    (λ made. call_goes bytes left IsLeft lets_left takes_left c.self.inside.device done.new.device c.self.inside.core done.new.core policy policy made c.self.invariant.carried (λ q old apart. done.ensures.crash q old) done.ensures.commits))
 
 pub returns-clause-stays : goal.returns-clause-stays
 returns-clause-stays g c = rw (← c.self.view_is) c.force.ensures.stays

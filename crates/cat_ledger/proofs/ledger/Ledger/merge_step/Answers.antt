@@ -12,7 +12,9 @@ use Rattle.cat_ledger.proofs.Untold.{untold_input}
 use Rattle.cat_ledger.specs.Refusals.{HasUntoldInput}
 use Rattle.cat_ledger_state.specs.Cores.{LacksInput, LacksOwn}
 use Rattle.cat_ledger.specs.Lasting.{IsLasting}
-use Rattle.cat_ledger.proofs.Histories.{call_goes, or_gone}
+use Rattle.cat_ledger.proofs.Histories.{call_goes}
+use Rattle.cat_ledger.proofs.Taken.{takes_maintain}
+use Rattle.cat_ledger_laws.proofs.model.Taking.{takes_left}
 use Rattle.cat_ledger.specs.Histories.{Event, Goes}
 use Rattle.cat_ledger.proofs.ledger.Ledger.merge_step.Goals as goal
 
@@ -41,13 +43,12 @@ returns-clause-history g c =
     let policy = c.self.inside.policy in
     let bytes = g.D.Holder.bytes in
     let left = g.D.Holder.may_leave in
-    let spared = or_gone (left c.self.inside.device) (left done.new.device) done.ensures.commits in
     rw (← c.self.view_is) (either_way
-    (Goes left Event.Other (record { device = c.self.inside.device; core = c.self.inside.core; policy = policy }) (record { device = done.new.device; core = done.new.core; policy = policy }))
+    (Goes bytes left Event.Other (record { device = c.self.inside.device; core = c.self.inside.core; policy = policy }) (record { device = done.new.device; core = done.new.core; policy = policy }))
     (Makes IsLeft (bytes c.self.inside.device) c.self.inside.core (bytes done.new.device) done.new.core) done.result done.ensures.ok done.ensures.err
-    (λ news makes. call_goes left bytes (Maintains policy Chore.merge (news_of news)) (lets_maintain policy Chore.merge (news_of news)) c.self.inside.device
-    done.new.device c.self.inside.core done.new.core policy policy makes c.self.invariant.carried spared)
-    (λ made. call_goes left bytes IsLeft lets_left c.self.inside.device done.new.device c.self.inside.core done.new.core policy policy made c.self.invariant.carried spared))
+    (λ news makes. call_goes bytes left (Maintains policy Chore.merge (news_of news)) (lets_maintain policy Chore.merge (news_of news)) (takes_maintain policy Chore.merge (news_of news)) c.self.inside.device
+    done.new.device c.self.inside.core done.new.core policy policy makes c.self.invariant.carried done.ensures.crash done.ensures.commits)
+    (λ made. call_goes bytes left IsLeft lets_left takes_left c.self.inside.device done.new.device c.self.inside.core done.new.core policy policy made c.self.invariant.carried done.ensures.crash done.ensures.commits))
 
 pub returns-clause-segments : goal.returns-clause-segments
 returns-clause-segments g c = rw (← c.self.view_is) c.merge_step.ensures.segments

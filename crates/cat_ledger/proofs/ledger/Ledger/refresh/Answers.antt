@@ -3,7 +3,9 @@ use Rattle.cat_ledger_laws.specs.lines.LineLaws.{Refreshes}
 use Rattle.cat_ledger_laws.specs.model.Replies.{IsLeft}
 use Rattle.cat_ledger.proofs.Lasting.{call_keeps, lets_left, lets_refresh}
 use Rattle.cat_ledger.proofs.Made.{untouched}
-use Rattle.cat_ledger.proofs.Histories.{call_goes, nothing_goes, or_gone}
+use Rattle.cat_ledger.proofs.Histories.{call_goes, nothing_goes}
+use Rattle.cat_ledger.proofs.Taken.{takes_refresh}
+use Rattle.cat_ledger_laws.proofs.model.Taking.{takes_left}
 use Rattle.cat_ledger.proofs.Refused.{nothing_ends}
 use Rattle.cat_ledger.proofs.ledger.Ledger.refresh.Goals as goal
 
@@ -35,17 +37,17 @@ returns-clause-full g c = rw (← c.self.view_is) (λ no. absurd (no (sym c.if-i
 
 pub returns-then-is_refused-clause-history : goal.returns-then-is_refused-clause-history
 returns-then-is_refused-clause-history g c =
-    nothing_goes g.D.Holder.may_leave c.args.self.now
+    nothing_goes g.D.Holder.bytes g.D.Holder.may_leave c.args.self.now
 
 pub returns-in-Err-clause-history : goal.returns-in-Err-clause-history
 returns-in-Err-clause-history g c =
-    rw (← c.self.view_is) (call_goes g.D.Holder.may_leave g.D.Holder.bytes (IsLeft) (lets_left) c.self.inside.device c.flush_and_record.new.device c.self.inside.core c.flush_and_record.new.core
-    c.self.inside.policy c.self.inside.policy c.in-Err.ensures.err c.self.invariant.carried (or_gone (g.D.Holder.may_leave c.self.inside.device) (g.D.Holder.may_leave c.flush_and_record.new.device) c.flush_and_record.ensures.commits))
+    rw (← c.self.view_is) (call_goes g.D.Holder.bytes g.D.Holder.may_leave IsLeft lets_left takes_left c.self.inside.device c.flush_and_record.new.device c.self.inside.core c.flush_and_record.new.core
+    c.self.inside.policy c.self.inside.policy c.in-Err.ensures.err c.self.invariant.carried (λ q old apart. c.flush_and_record.ensures.crash q old) c.flush_and_record.ensures.commits)
 
 pub returns-clause-history : goal.returns-clause-history
 returns-clause-history g c =
-    rw (← c.self.view_is) (call_goes g.D.Holder.may_leave g.D.Holder.bytes (Refreshes) (lets_refresh) c.self.inside.device c.flush_and_record.new.device c.self.inside.core c.flush_and_record.new.core
-    c.self.inside.policy c.self.inside.policy c.in_default.ensures.ok c.self.invariant.carried (or_gone (g.D.Holder.may_leave c.self.inside.device) (g.D.Holder.may_leave c.flush_and_record.new.device) c.flush_and_record.ensures.commits))
+    rw (← c.self.view_is) (call_goes g.D.Holder.bytes g.D.Holder.may_leave Refreshes lets_refresh takes_refresh c.self.inside.device c.flush_and_record.new.device c.self.inside.core c.flush_and_record.new.core
+    c.self.inside.policy c.self.inside.policy c.in_default.ensures.ok c.self.invariant.carried (λ q old apart. c.flush_and_record.ensures.crash q old) c.flush_and_record.ensures.commits)
 
 pub returns-then-is_refused-clause-stays : goal.returns-then-is_refused-clause-stays
 returns-then-is_refused-clause-stays g c = nothing_ends c.args.self.now.core

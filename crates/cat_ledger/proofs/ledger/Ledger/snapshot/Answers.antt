@@ -22,5 +22,6 @@ returns-clause-ok g c =
 
 pub returns-clause-history : goal.returns-clause-history
 returns-clause-history g c =
-    rw (← c.self.view_is) (memory_goes g.D.Holder.may_leave c.self.inside.device c.self.inside.core c.snapshot.new.self c.self.inside.policy c.self.inside.policy
-    (ap (λ (x : Shape). newest_generation x.commits) c.in_ok-generation.ensures.ok.rest) (ap (λ (x : Shape). x.next_generation) c.in_ok-generation.ensures.ok.rest))
+    rw (← c.self.view_is) (memory_goes g.D.Holder.bytes g.D.Holder.may_leave c.self.inside.device c.self.inside.core c.snapshot.new.self c.self.inside.policy c.self.inside.policy
+    (ap (λ (x : Shape). newest_generation x.commits) c.in_ok-generation.ensures.ok.rest) (ap (λ (x : Shape). x.next_generation) c.in_ok-generation.ensures.ok.rest)
+    (ap (λ (x : Shape). x.next_segment) c.in_ok-generation.ensures.ok.rest) (ap (λ (x : Shape). x.merging) c.in_ok-generation.ensures.ok.rest))

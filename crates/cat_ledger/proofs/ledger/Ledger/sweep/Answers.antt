@@ -1,9 +1,9 @@
 use Rattle.std.proofs.Common.{[]}
 use Rattle.cat_ledger.proofs.Lasting.{sweep_keeps}
 use Rattle.cat_ledger_laws.proofs.shape.Writes.{sweeps_make}
-use Rattle.cat_ledger.proofs.Histories.{call_goes}
+use Rattle.cat_ledger.proofs.Histories.{gone_goes}
+use Rattle.cat_ledger_laws.proofs.model.Taking.{takes_sweep}
 use Rattle.cat_ledger.proofs.Lasting.{lets_sweep}
-use Rattle.cat_directory.specs.declared.name.FileName.TheVariants as file
 use Rattle.cat_ledger_laws.specs.model.Calls.{MayLeave}
 use Rattle.cat_ledger.proofs.ledger.Ledger.sweep.Goals as goal
 
@@ -19,6 +19,6 @@ returns-clause-ok g c =
 
 pub returns-clause-history : goal.returns-clause-history
 returns-clause-history g c =
-    rw (← c.self.view_is) (call_goes g.D.Holder.may_leave g.D.Holder.bytes (MayLeave []) (lets_sweep) c.self.inside.device c.sweep.new.device c.self.inside.core c.sweep.new.self
+    rw (← c.self.view_is) (gone_goes g.D.Holder.bytes g.D.Holder.may_leave (MayLeave []) lets_sweep (takes_sweep []) c.self.inside.device c.sweep.new.device c.self.inside.core c.sweep.new.self
     c.self.inside.policy c.self.inside.policy (sweeps_make c.self.inside.core c.sweep.new.self (g.D.Holder.bytes c.self.inside.device) (g.D.Holder.bytes c.sweep.new.device)
-    c.sweep.ensures.leaves c.sweep.ensures.used) c.self.invariant.carried (λ n. c.sweep.ensures.files.back (file.Commit n)))
+    c.sweep.ensures.leaves c.sweep.ensures.used) c.self.invariant.carried c.sweep.ensures.files.back)

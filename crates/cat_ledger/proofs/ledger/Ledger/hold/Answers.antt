@@ -1,0 +1,37 @@
+use Rattle.std.proofs.Common.{◌∙◌, sym}
+use Rattle.cat_ledger.proofs.Lasting.{held_carried, kept_still, same_needs}
+use Rattle.cat_ledger.proofs.Made.{asked_is, asked_nowhere}
+use Rattle.cat_ledger.proofs.ledger.Ledger.hold.Goals as goal
+
+pub invariant_of-self-2 : goal.invariant_of-self-2
+invariant_of-self-2 g c =
+    let t = c.unwrap_or-token.result in
+    let s = c.self.inside.core in
+    let s' = c.hold.new.self in
+    kept_still g.D.Holder.bytes g.D.Holder.may_leave g.met.D.Holder.may_stay c.self.inside.device c.self.inside.device s s'
+    (held_carried c.self.inside.policy (g.D.Holder.bytes c.self.inside.device) s s' c.args.session t (sym c.if-not-is_recorded.ensures)
+    c.in_default.ensures.ok c.self.invariant.carried)
+    (same_needs _ _ c.in_default.ensures.ok) (λ q needed e might. might) c.self.invariant
+
+pub returns-then-not-is_recorded-clause-gone : goal.returns-then-not-is_recorded-clause-gone
+returns-then-not-is_recorded-clause-gone g c =
+    rw (← c.self.view_is) (λ _ t asked. asked_nowhere c.self.inside.core c.args.token c.newest_token.result c.unwrap_or-token.result t
+    c.unwrap_or-token.ensures c.newest_token.ensures.there (sym c.is_recorded.ensures ∙ c.if-not-is_recorded.true) asked)
+
+pub returns-then-is_held_by-clause-asked : goal.returns-then-is_held_by-clause-asked
+returns-then-is_held_by-clause-asked g c =
+    rw (← c.self.view_is) (asked_is c.self.inside.core c.args.token c.newest_token.result c.unwrap_or-token.result c.unwrap_or-token.ensures
+    c.newest_token.ensures.greatest (sym c.if-not-is_recorded.ensures))
+
+pub returns-clause-asked : goal.returns-clause-asked
+returns-clause-asked g c =
+    rw (← c.self.view_is) (asked_is c.self.inside.core c.args.token c.newest_token.result c.unwrap_or-token.result c.unwrap_or-token.ensures
+    c.newest_token.ensures.greatest (sym c.if-not-is_recorded.ensures))
+
+pub returns-in-Err-clause-due : goal.returns-in-Err-clause-due
+returns-in-Err-clause-due g c = rw (← c.self.view_is) (λ _. (
+  c.unwrap_or-token.result,
+  asked_is c.self.inside.core c.args.token c.newest_token.result c.unwrap_or-token.result c.unwrap_or-token.ensures
+      c.newest_token.ensures.greatest (sym c.if-not-is_recorded.ensures),
+  sym c.if-is_held_by.ensures,
+))
