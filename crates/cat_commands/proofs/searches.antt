@@ -1,4 +1,3 @@
 pub mod Asked
 pub mod Cached
-pub mod Shown
 pub mod Told

@@ -1,3 +1,1 @@
-pub mod Counted
 pub mod Answered
-pub mod Stays

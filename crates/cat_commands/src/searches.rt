@@ -2,7 +2,6 @@
 
 mod asking;
 mod counts;
-mod marks;
 mod pages;
 mod preparing;
 

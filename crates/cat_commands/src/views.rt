@@ -3,11 +3,9 @@
 mod closing;
 mod opening;
 mod reading;
-mod staying;
 mod telling;
 
 pub use closing::close;
 pub use opening::open;
 pub use reading::get;
-pub use staying::rights_stay;
 pub use telling::files_of_token;

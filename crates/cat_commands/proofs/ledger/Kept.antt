@@ -1,5 +1,5 @@
 -- What a call leaves of a ledger that it doesn't change.
-use Rattle.std.proofs.Common.{◌≡◌, ap, arith, inl, refl, subst, sym}
+use Rattle.std.proofs.Common.{◌≡◌, ap, refl, subst, sym}
 use Rattle.std.specs.Prelude.{Err, IfErr, Ok, OnErr, Option, Result}
 use Rattle.cat_base.specs.declared.refusal.Refusal.{Refusal}
 use Rattle.cat_base.specs.declared.refusal.Refusal.TheVariants.{Memory}
@@ -8,7 +8,6 @@ use Rattle.cat_directory.specs.declared.name.FileName.{FileName}
 use Rattle.cat_ledger_laws.specs.shape.Shapes.{MergingShape, Shape}
 use Rattle.cat_ledger_laws.specs.shape.Ties.{ToldFiles}
 use Rattle.cat_ledger_laws.specs.lines.LineLaws.{NothingChanges}
-use Rattle.cat_ledger.specs.Histories.{Event, Goes}
 use Rattle.cat_ledger.specs.Ledgers.{LedgerOnDevice, Spares, device_in, shape_in}
 use Rattle.cat_ledger.specs.Refusals.{KeepsMerge, KeepsSegments}
 use Rattle.cat_protocol.specs.declared.replies.answer.Answer.{Answer}
@@ -23,9 +22,6 @@ unchanged bytes old new same = (ap shape_in same, λ q. ap (λ l. bytes (device_
 pub spares_same : {D : Type 0} (left : D → FileName → FileContent → Type 0) (old new : LedgerOnDevice D) → device_in new ≡ device_in old
     → Spares left old new
 spares_same left old new same q fresh merging e might = subst (λ d. left d q e) same might
-
-pub goes_same : {D : Type 0} (left : D → FileName → FileContent → Type 0) (l : LedgerOnDevice D) → Goes left Event.Other l l
-goes_same left l = record { newest = refl; next = omega arith; asked = λ g no. absurd no; taken = λ g no. absurd no; files = λ g other e after. inl after }
 
 -- ---- behind a refusal
 

@@ -1,6 +1,6 @@
 -- What a sweep makes that is answered.
 use Rattle.std.proofs.Common.{◌≡◌, ℕ, Bool, true, false, ◌&&◌, [], ap, refl, sym, ◌∙◌}
-use Rattle.std.specs.Prelude.{◌≢◌, ◌==◌, Result, Ok, Err, IfErr}
+use Rattle.std.specs.Prelude.{◌==◌, Result, Ok, Err, IfErr}
 use Rattle.cat_base.specs.declared.refusal.Refusal.{Refusal}
 use Rattle.cat_base.specs.declared.refusal.Refusal.TheVariants.{Memory}
 use Rattle.cat_model.specs.Files.{Name}
@@ -13,7 +13,7 @@ use Rattle.cat_ledger_laws.specs.shape.Shapes.{Shape}
 use Rattle.cat_ledger_laws.specs.shape.Ties.{Makes, ToldFiles}
 use Rattle.cat_ledger.specs.Lasting.{IsCarried}
 use Rattle.cat_ledger.specs.Ledgers.{DoesCall, LedgerOnDevice, device_in, shape_in}
-use Rattle.cat_ledger.specs.cat_lifetimes.refs.Counts.{IsPending, is_pending}
+use Rattle.cat_ledger.specs.cat_lifetimes.refs.Counts.{is_pending}
 use Rattle.cat_protocol.specs.declared.replies.answer.Answer.{Answer}
 use Rattle.cat_commands.specs.ledger.Chores.{IsSwept, SweepsFiles, pending_in}
 

@@ -1,4 +1,4 @@
--- What is said of the right that there is, and what a read makes of the sets and the notes.
+-- What is said of the view that is held, and what a read makes of the sets and the notes.
 use Rattle.std.proofs.Common.{◌≡◌, ◌∙◌, Option, Some, None, refl, sym, ap, subst, inr}
 use Rattle.std.specs.Prelude.{IfOk, IfSome, MatchOption, Ok, Result}
 use Rattle.cat_model.specs.Item.{Schema}
@@ -10,22 +10,22 @@ use Rattle.cat_protocol.specs.cat_search.Views.{Prepared}
 use Rattle.cat_cached_sets.specs.filters.Filters.{Filters, noted_with, sets_used_in}
 use Rattle.cat_commands.specs.searches.Uses.{Uses, UsesAndNotes, UsesSpelled}
 
--- what is said of whatever right there is is said of this one
-pub of_right : {A : Type 0} (P : A → Type 0) (right : Option A) (hold : A) → right ≡ Some hold → IfSome right P → P hold
-of_right P right hold is h = subst (λ o. IfSome o P) is h
+-- what is said of whatever is held is said of this one
+pub of_held : {A : Type 0} (P : A → Type 0) (held : Option A) (v : A) → held ≡ Some v → IfSome held P → P v
+of_held P held v is h = subst (λ o. IfSome o P) is h
 
 -- and the other way round
-pub to_right : {A : Type 0} (P : A → Type 0) (right : Option A) (hold : A) → right ≡ Some hold → P hold → IfSome right P
-to_right P right hold is h = subst (λ o. IfSome o P) (sym is) h
+pub to_held : {A : Type 0} (P : A → Type 0) (held : Option A) (v : A) → held ≡ Some v → P v → IfSome held P
+to_held P held v is h = subst (λ o. IfSome o P) (sym is) h
 
--- what holds of the right that there is
-pub by_right : {A : Type 0} (N : Type 0) (P : A → Type 0) (right : Option A) (hold : A) → right ≡ Some hold → P hold → MatchOption right N P
-by_right N P right hold is h = subst (λ o. MatchOption o N P) (sym is) h
+-- what is so of what is held
+pub by_held : {A : Type 0} (N : Type 0) (P : A → Type 0) (held : Option A) (v : A) → held ≡ Some v → P v → MatchOption held N P
+by_held N P held v is h = subst (λ o. MatchOption o N P) (sym is) h
 
--- what holds with any right and with none
-pub by_any : {A : Type 0} (N : Type 0) (P : A → Type 0) (right : Option A) → N → ((hold : A) → P hold) → MatchOption right N P
+-- what is so whatever is held, and where nothing is
+pub by_any : {A : Type 0} (N : Type 0) (P : A → Type 0) (held : Option A) → N → ((v : A) → P v) → MatchOption held N P
 by_any N P None none some = none
-by_any N P (Some hold) none some = some hold
+by_any N P (Some v) none some = some v
 
 -- a note behind the uses
 pub noted_after : (q p : Query) (view : View) (old used new : Filters) → Uses q view old used → p ≡ q → new ≡ record used { noted = noted_with p used.noted }
@@ -34,10 +34,10 @@ noted_after q p view old used new uses same noted =
     noted ∙ ap (λ (f : Filters). record f { noted = noted_with p f.noted }) uses
     ∙ ap (λ (p : Query). record { cached = sets_used_in q (segments_of view.leaves) old.cached; noted = noted_with p old.noted; warming = old.warming }) same
 
--- whatever right there is, nothing changed
-pub unchanged : {A : Type 0} (view : A → View) (schema : Schema) (text : Text) (f : Filters) (right : Option A)
-    → MatchOption right (f ≡ f) (λ h. UsesSpelled schema text (view h) f f)
-unchanged view schema text f right = by_any (f ≡ f) (λ h. UsesSpelled schema text (view h) f f) right refl (λ h. inr refl)
+-- whatever is held, nothing changed
+pub unchanged : {A : Type 0} (view : A → View) (schema : Schema) (text : Text) (f : Filters) (held : Option A)
+    → MatchOption held (f ≡ f) (λ h. UsesSpelled schema text (view h) f f)
+unchanged view schema text f held = by_any (f ≡ f) (λ h. UsesSpelled schema text (view h) f f) held refl (λ h. inr refl)
 
 -- what was made ready, where memory was found for it
 pub prepared_is : {E : Type 0} (r : Result Prepared E) (p : Prepared) → r ≡ Ok p → (view : View) (query : code.Query)

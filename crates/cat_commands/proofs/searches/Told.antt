@@ -37,41 +37,41 @@ facets_is dimension count = record { sound = λ q. refl; faulty = λ e. refl; an
 module _ (schema : Schema) (text : Text) (asked : Result Query Refusal → Read) (is : IsByQuery asked) where
   -- the reply may be told to the read of the query that the text spells, or of its fault
   abbrev pub Told : Option View → Reply → Type 0
-  Told right r = (q : Result Query Refusal) × IsQueryOf schema text q × MayTell right (asked q) r
+  Told held r = (q : Result Query Refusal) × IsQueryOf schema text q × MayTell held (asked q) r
 
   -- of a text that has a fault
-  pub fault_told : (right : Option View) (e : Refusal) → ((place : ℕ) × (e ≡ NoQuery place) × Fault schema text place) → Told right (Err e)
-  fault_told right e fault =
-      (Err (NoQuery fault.0), IsQueryOf.faulty fault.0 fault.2, subst (λ f. MayTell right (asked (Err (NoQuery fault.0))) (Err f)) (sym fault.1) (by right))
+  pub fault_told : (held : Option View) (e : Refusal) → ((place : ℕ) × (e ≡ NoQuery place) × Fault schema text place) → Told held (Err e)
+  fault_told held e fault =
+      (Err (NoQuery fault.0), IsQueryOf.faulty fault.0 fault.2, subst (λ f. MayTell held (asked (Err (NoQuery fault.0))) (Err f)) (sym fault.1) (by held))
     where
       by : (o : Option View) → MayTell o (asked (Err (NoQuery fault.0))) (Err (NoQuery fault.0))
       by None = inl (ap or_not_held (sym (is.faulty (NoQuery fault.0))))
       by (Some view) = inl (Err (NoQuery fault.0), λ rs shown. is.answered view.schema rs (NoQuery fault.0), refl)
 
   module _ (q : Query) (spelled : Spells schema text q) where
-    -- where there is no right
-    pub unheld_told : (right : Option View) → right ≡ None → Told right (Err NotHeld)
-    unheld_told right none =
+    -- where none is held
+    pub unheld_told : (held : Option View) → held ≡ None → Told held (Err NotHeld)
+    unheld_told held none =
         (Ok q, IsQueryOf.spelled q spelled, subst (λ o. MayTell o (asked (Ok q)) (Err NotHeld)) (sym none) (inl (ap or_not_held (sym (is.sound q)))))
 
     -- where memory is wanted
-    pub memory_told : (right : Option View) → Told right (Err Memory)
-    memory_told right = (Ok q, IsQueryOf.spelled q spelled, by right)
+    pub memory_told : (held : Option View) → Told held (Err Memory)
+    memory_told held = (Ok q, IsQueryOf.spelled q spelled, by held)
       where
         by : (o : Option View) → MayTell o (asked (Ok q)) (Err Memory)
         by None = inr refl
         by (Some view) = inr refl
 
-    module _ (right : Option View) (view : View) (held : right ≡ Some view) where
+    module _ (held : Option View) (view : View) (there : held ≡ Some view) where
       -- what is found
-      pub found_told : (found : Result Found Refusal) → ReadFinds view (asked (Ok q)) found → Told right (found_reply found)
+      pub found_told : (found : Result Found Refusal) → ReadFinds view (asked (Ok q)) found → Told held (found_reply found)
       found_told found finds =
-          (Ok q, IsQueryOf.spelled q spelled, subst (λ o. MayTell o (asked (Ok q)) (found_reply found)) (sym held) (inl (found, finds, refl)))
+          (Ok q, IsQueryOf.spelled q spelled, subst (λ o. MayTell o (asked (Ok q)) (found_reply found)) (sym there) (inl (found, finds, refl)))
 
       -- a refusal, which is found but where it is want of memory
-      pub refusal_told : (e : Refusal) → (e ≢ Memory → ReadFinds view (asked (Ok q)) (Err e)) → Told right (Err e)
+      pub refusal_told : (e : Refusal) → (e ≢ Memory → ReadFinds view (asked (Ok q)) (Err e)) → Told held (Err e)
       refusal_told e finds = elim (is_memory e) [
-        | inl memory ↦ subst (λ f. Told right (Err f)) (sym memory) (memory_told right)
+        | inl memory ↦ subst (λ f. Told held (Err f)) (sym memory) (memory_told held)
         | inr other ↦ found_told (Err e) (finds other)
       ]
 

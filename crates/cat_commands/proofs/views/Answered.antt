@@ -1,11 +1,11 @@
 -- What is answered to a command, from what the ledger's call says.
-use Rattle.std.proofs.Common.{◌≡◌, ℕ, true, Option, Some, None, refl, sym, subst, inl, inr}
+use Rattle.std.proofs.Common.{◌≡◌, ◌∙◌, ℕ, Bool, true, false, Option, Some, None, refl, sym, subst, inl, inr}
 use Rattle.std.specs.Prelude.{◌==◌, ◌⊎◌, Err, IsTrue, Ok, option_map}
 use Rattle.std.specs.List.{list_any}
 use Rattle.std.proofs.lemmas.Bool.{cases_Bool}
 use Rattle.std.proofs.lemmas.List.Elements.{All-from_recursion, recursion_from_All}
 use Rattle.cat_base.specs.declared.refusal.Refusal.{Refusal}
-use Rattle.cat_base.specs.declared.refusal.Refusal.TheVariants.{Damaged, Device, Gone, Memory}
+use Rattle.cat_base.specs.declared.refusal.Refusal.TheVariants.{Damaged, Device, Gone, Memory, NotHeld}
 use Rattle.cat_model.specs.Answer.{Read}
 use Rattle.cat_model.specs.Heard.{IsCommand}
 use Rattle.cat_model.specs.Run.{Command, greatest, is_looked_at}
@@ -14,7 +14,7 @@ use Rattle.cat_model.specs.Text.{Text}
 use Rattle.cat_model.specs.View.{Leaf, View}
 use Rattle.cat_model.proofs.Lists.{All-weaken}
 use Rattle.cat_items.specs.Reading.{json}
-use Rattle.cat_directory.specs.Devices.{ReadingCount}
+use Rattle.cat_directory.specs.Devices.{CountsOne, ReadingCount}
 use Rattle.cat_directory.specs.declared.name.FileName.TheVariants as file
 use Rattle.cat_cached_sets.specs.cat_views.Sources.{TellsSource, has_live}
 use Rattle.cat_ledger_laws.specs.model.Plans.{MergePolicy}
@@ -27,6 +27,7 @@ use Rattle.cat_ledger_laws.specs.lines.ReadLaws.{TellsSources}
 use Rattle.cat_ledger_laws.specs.lines.RunLaws.{AnswersCarried}
 use Rattle.cat_ledger_laws.proofs.lines.HoldAnswers.{gone_opens_answer, opens_answer, opens_newest_answer}
 use Rattle.cat_ledger_laws.proofs.lines.LineAnswers.{memory_answers}
+use Rattle.cat_ledger_laws.proofs.lines.ReadAnswers.{unheld_reads_answer}
 use Rattle.cat_ledger_laws.proofs.lines.StopAnswers.{nothing_is_left, stopped_gets_answer}
 use Rattle.cat_ledger.specs.Grants.{IsAsked}
 use Rattle.cat_commands.specs.views.Holding.{said_open}
@@ -89,6 +90,12 @@ module _ (policy : MergePolicy) (told told' : ToldFiles) (s new : Shape) (sessio
   get_refused t id e held still (inr (inr is)) = named (Command.read t (Read.get (Ok id))) e Damaged is
       (stopped_gets_answer policy told told' s new session t id Damaged held refl (nothing_is_left told told' s new still))
 
+  -- and where it isn't
+  pub get_unheld : (t : ℕ) (id : Text) (e : Refusal) → e ≡ NotHeld → has_hold s.holds session t ≡ false → NothingChanges told s told' new
+      → Refuses (Command.read t (Read.get (Ok id))) e
+  get_unheld t id e is none still = named (Command.read t (Read.get (Ok id))) e NotHeld is
+      (unheld_reads_answer policy told told' s new session t (Read.get (Ok id)) none still)
+
 -- a call that reads is refused for memory, for a failure, or for a damaged file
 pub reading_refusal : (old new : ℕ) (e : Refusal) → ReadingCount old new e → (e ≡ Memory) ⊎ (e ≡ Device) ⊎ (e ≡ Damaged)
 reading_refusal old new Memory counted = inl refl
@@ -96,9 +103,16 @@ reading_refusal old new Device counted = inr (inl refl)
 reading_refusal old new Damaged counted = inr (inr refl)
 reading_refusal old new _ counted = absurd counted
 
--- and where it is for memory, it counts nothing
-pub reading_is_quiet : (old new : ℕ) (e : Refusal) → ReadingCount old new e → e ≡ Memory → new ≡ old
-reading_is_quiet old new e counted memory = subst (λ x. ReadingCount old new x) memory counted
+-- one that reads where the token is held counts its failure, and where it is for memory, it counts nothing
+module _ (old new : ℕ) (held : Bool) (e : Refusal) (unheld : held ≡ false → e ≡ NotHeld) (counted : held ≡ true → ReadingCount old new e) where
+  read_refused : (e ≡ NotHeld → ⊥) → ReadingCount old new e
+  read_refused other = elim (cases_Bool held) [ inl is ↦ counted is | inr none ↦ absurd (other (unheld none)) ]
+
+  pub source_counts : e ≡ Device → CountsOne old new
+  source_counts is = subst (λ x. ReadingCount old new x) is (read_refused (λ none. absurd (let no : Device ≡ NotHeld = sym is ∙ none in cc)))
+
+  pub source_quiet : e ≡ Memory → new ≡ old
+  source_quiet is = subst (λ x. ReadingCount old new x) is (read_refused (λ none. absurd (let no : Memory ≡ NotHeld = sym is ∙ none in cc)))
 
 -- ---- the text of an item
 

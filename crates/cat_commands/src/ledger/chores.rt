@@ -12,7 +12,7 @@ ghost use Rattle.cat_ledger.specs.Answering.{AnswersCommand, AnswersSaid};
 ghost use Rattle.cat_ledger.specs.Histories.{Event, Goes};
 ghost use Rattle.cat_ledger.specs.Lasting.{IsCarried};
 ghost use Rattle.cat_ledger.specs.Ledgers.{Spares, device_in, policy_in, shape_in};
-ghost use Rattle.cat_ledger.specs.Refusals.{KeepsSegments};
+ghost use Rattle.cat_ledger.specs.Refusals.{HasUntoldInput, KeepsSegments};
 ghost use Rattle.cat_protocol.specs.replies.Reply.{answer_of, reply_of};
 ghost use Rattle.cat_commands.specs.declared.ledger.chores.Chore.TheVariants.{Merge, Sweep};
 ghost use Rattle.cat_commands.specs.ledger.Chores.{IsSwept, KeepsBehind, MayRefuse, MayRefuseMerge, ReachesFor, SparesUsed, SweepsFiles, TellsChore, chore_of, pending_in, sets_left};
@@ -49,13 +49,14 @@ fn merge<D: Directory + Shelf>(
     ensures reach { IfErr result (λ e. e ≡ Memory → MayCopy (D.bytes (device_in ledger.old)) (shape_in ledger.old).merging) }
     ensures lacks { IfErr result (λ e. e ≡ Damaged → LacksToCopy (D.bytes (device_in ledger.old)) (shape_in ledger.old).merging
         × LacksInput (D.bytes (device_in ledger.old)) (shape_in ledger.old).merging) }
+    ensures untold { IfErr result (λ e. e ≡ Damaged → HasUntoldInput (D.bytes (device_in ledger.old)) (shape_in ledger.old).merging) }
     ensures device { IfErr result (λ e. e ≡ Device → D.can_fail (device_in ledger.old)) }
     ensures counted { IfErr result (λ e. e ≡ Device → CountsOne (D.fault_count (device_in ledger.old)) (D.fault_count (device_in ledger.new))) }
     ensures quiet { IfErr result (λ e. e ≡ Memory → D.fault_count (device_in ledger.new) ≡ D.fault_count (device_in ledger.old)) }
     ensures crash { Spares D.may_leave ledger.old ledger.new }
     ensures can { D.can_fail (device_in ledger.new) → D.can_fail (device_in ledger.old) }
     ensures rises { D.fault_count (device_in ledger.old) ≤ D.fault_count (device_in ledger.new) }
-    ensures history { Goes D.may_leave Event.Other ledger.old ledger.new }
+    ensures history { Goes D.bytes D.may_leave Event.Other ledger.old ledger.new }
     ensures segments { OnErr result (KeepsSegments (shape_in ledger.old) (shape_in ledger.new)) }
     ensures policy { policy_in ledger.new ≡ policy_in ledger.old }
     ensures sets { filters.new ≡ sets_left Chore.Merge (shape_in ledger.new) filters.old }
@@ -81,7 +82,7 @@ fn sweep<D: Directory + Shelf>(ledger: &mut Ledger<D>) -> Result<Answer, Refusal
     ensures crash { SparesUsed D.may_leave ledger.old ledger.new }
     ensures can { D.can_fail (device_in ledger.new) → D.can_fail (device_in ledger.old) }
     ensures rises { D.fault_count (device_in ledger.old) ≤ D.fault_count (device_in ledger.new) }
-    ensures history { Goes D.may_leave Event.Other ledger.old ledger.new }
+    ensures history { Goes D.bytes D.may_leave Event.Other ledger.old ledger.new }
     ensures policy { policy_in ledger.new ≡ policy_in ledger.old }
 {
     match ledger.sweep() {
@@ -119,13 +120,14 @@ pub fn maintain<D: Directory + Shelf>(
     ensures reach { IfErr result (λ e. e ≡ Memory → ReachesFor chore (D.bytes (device_in ledger.old)) (shape_in ledger.old).merging) }
     ensures lacks { chore ≡ Merge → IfErr result (λ e. e ≡ Damaged → LacksToCopy (D.bytes (device_in ledger.old)) (shape_in ledger.old).merging
         × LacksInput (D.bytes (device_in ledger.old)) (shape_in ledger.old).merging) }
+    ensures untold { chore ≡ Merge → IfErr result (λ e. e ≡ Damaged → HasUntoldInput (D.bytes (device_in ledger.old)) (shape_in ledger.old).merging) }
     ensures device { IfErr result (λ e. e ≡ Device → D.can_fail (device_in ledger.old)) }
     ensures counted { IfErr result (λ e. e ≡ Device → CountsOne (D.fault_count (device_in ledger.old)) (D.fault_count (device_in ledger.new))) }
     ensures quiet { IfErr result (λ e. e ≡ Memory → D.fault_count (device_in ledger.new) ≡ D.fault_count (device_in ledger.old)) }
     ensures crash { SparesUsed D.may_leave ledger.old ledger.new }
     ensures can { D.can_fail (device_in ledger.new) → D.can_fail (device_in ledger.old) }
     ensures rises { D.fault_count (device_in ledger.old) ≤ D.fault_count (device_in ledger.new) }
-    ensures history { Goes D.may_leave Event.Other ledger.old ledger.new }
+    ensures history { Goes D.bytes D.may_leave Event.Other ledger.old ledger.new }
     ensures keeps { OnErr result (KeepsBehind chore (shape_in ledger.old) (shape_in ledger.new)) }
     ensures policy { policy_in ledger.new ≡ policy_in ledger.old }
     ensures sets { session ≡ 0 → filters.new ≡ sets_left chore (shape_in ledger.new) filters.old }

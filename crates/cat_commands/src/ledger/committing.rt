@@ -42,7 +42,7 @@ pub fn commit<D: Directory + Shelf>(ledger: &mut Ledger<D>, text: &str) -> Resul
     ensures quiet { IfErr result (λ e. e ≡ Memory → D.fault_count (device_in ledger.new) ≡ D.fault_count (device_in ledger.old)) }
     ensures can { D.can_fail (device_in ledger.new) → D.can_fail (device_in ledger.old) }
     ensures rises { D.fault_count (device_in ledger.old) ≤ D.fault_count (device_in ledger.new) }
-    ensures history { GoesBy D.may_leave (Some (Said.commit text.now)) (reply_of result) ledger.old ledger.new }
+    ensures history { GoesBy D.bytes D.may_leave (Some (Said.commit text.now)) (reply_of result) ledger.old ledger.new }
     ensures stays { OnErr result (KeepsMerge (shape_in ledger.old) (shape_in ledger.new)) }
     ensures policy { policy_in ledger.new ≡ policy_in ledger.old }
 {
@@ -65,7 +65,7 @@ pub fn snapshot<D: Directory + Shelf>(ledger: &mut Ledger<D>) -> Result<Answer, 
     ensures crash { Spares D.may_leave ledger.old ledger.new }
     ensures can { D.can_fail (device_in ledger.new) → D.can_fail (device_in ledger.old) }
     ensures rises { D.fault_count (device_in ledger.old) ≤ D.fault_count (device_in ledger.new) }
-    ensures history { Goes D.may_leave Event.Other ledger.old ledger.new }
+    ensures history { Goes D.bytes D.may_leave Event.Other ledger.old ledger.new }
     ensures policy { policy_in ledger.new ≡ policy_in ledger.old }
 {
     match ledger.snapshot() {
@@ -88,7 +88,7 @@ pub fn release_snapshot<D: Directory + Shelf>(
     ensures crash { Spares D.may_leave ledger.old ledger.new }
     ensures can { D.can_fail (device_in ledger.new) → D.can_fail (device_in ledger.old) }
     ensures rises { D.fault_count (device_in ledger.old) ≤ D.fault_count (device_in ledger.new) }
-    ensures history { Goes D.may_leave Event.Other ledger.old ledger.new }
+    ensures history { Goes D.bytes D.may_leave Event.Other ledger.old ledger.new }
     ensures policy { policy_in ledger.new ≡ policy_in ledger.old }
 {
     match ledger.unsnapshot(generation) {

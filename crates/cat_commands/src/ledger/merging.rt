@@ -10,7 +10,7 @@ ghost use Rattle.cat_ledger.specs.upkeep.News as merges;
 ghost use Rattle.cat_ledger.specs.Answering.{AnswersCommand};
 ghost use Rattle.cat_ledger.specs.Histories.{Event, Goes};
 ghost use Rattle.cat_ledger.specs.Ledgers.{Spares, device_in, policy_in, shape_in};
-ghost use Rattle.cat_ledger.specs.Refusals.{KeepsMerge, KeepsSegments};
+ghost use Rattle.cat_ledger.specs.Refusals.{HasUntoldInput, KeepsMerge, KeepsSegments};
 ghost use Rattle.cat_protocol.specs.replies.Reply.{news_in_reply, reply_of};
 ghost use Rattle.cat_commands.specs.ledger.Chores.{MayRefuseForce, MayRefuseMerge};
 
@@ -40,13 +40,14 @@ pub(crate) fn merge_step<D: Directory + Shelf>(ledger: &mut Ledger<D>) -> Result
     ensures reach { IfErr result (λ e. e ≡ Memory → MayCopy (D.bytes (device_in ledger.old)) (shape_in ledger.old).merging) }
     ensures lacks { IfErr result (λ e. e ≡ Damaged → LacksToCopy (D.bytes (device_in ledger.old)) (shape_in ledger.old).merging
         × LacksInput (D.bytes (device_in ledger.old)) (shape_in ledger.old).merging) }
+    ensures untold { IfErr result (λ e. e ≡ Damaged → HasUntoldInput (D.bytes (device_in ledger.old)) (shape_in ledger.old).merging) }
     ensures device { IfErr result (λ e. e ≡ Device → D.can_fail (device_in ledger.old)) }
     ensures crash { Spares D.may_leave ledger.old ledger.new }
     ensures counted { IfErr result (λ e. e ≡ Device → CountsOne (D.fault_count (device_in ledger.old)) (D.fault_count (device_in ledger.new))) }
     ensures quiet { IfErr result (λ e. e ≡ Memory → D.fault_count (device_in ledger.new) ≡ D.fault_count (device_in ledger.old)) }
     ensures can { D.can_fail (device_in ledger.new) → D.can_fail (device_in ledger.old) }
     ensures rises { D.fault_count (device_in ledger.old) ≤ D.fault_count (device_in ledger.new) }
-    ensures history { Goes D.may_leave Event.Other ledger.old ledger.new }
+    ensures history { Goes D.bytes D.may_leave Event.Other ledger.old ledger.new }
     ensures segments { OnErr result (KeepsSegments (shape_in ledger.old) (shape_in ledger.new)) }
     ensures policy { policy_in ledger.new ≡ policy_in ledger.old }
 {
@@ -66,7 +67,7 @@ pub(crate) fn force<D: Directory + Shelf>(ledger: &mut Ledger<D>) -> Result<Answ
     ensures quiet { IfErr result (λ e. e ≡ Memory → D.fault_count (device_in ledger.new) ≡ D.fault_count (device_in ledger.old)) }
     ensures can { D.can_fail (device_in ledger.new) → D.can_fail (device_in ledger.old) }
     ensures rises { D.fault_count (device_in ledger.old) ≤ D.fault_count (device_in ledger.new) }
-    ensures history { Goes D.may_leave Event.Other ledger.old ledger.new }
+    ensures history { Goes D.bytes D.may_leave Event.Other ledger.old ledger.new }
     ensures stays { OnErr result (KeepsMerge (shape_in ledger.old) (shape_in ledger.new)) }
     ensures segments { OnErr result (KeepsSegments (shape_in ledger.old) (shape_in ledger.new)) }
     ensures policy { policy_in ledger.new ≡ policy_in ledger.old }

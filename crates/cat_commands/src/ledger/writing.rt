@@ -78,7 +78,7 @@ pub fn put<D: Directory + Shelf>(
     ensures quiet { IfErr result (λ e. e ≡ Memory → D.fault_count (device_in ledger.new) ≡ D.fault_count (device_in ledger.old)) }
     ensures can { D.can_fail (device_in ledger.new) → D.can_fail (device_in ledger.old) }
     ensures rises { D.fault_count (device_in ledger.old) ≤ D.fault_count (device_in ledger.new) }
-    ensures history { Goes D.may_leave Event.Other ledger.old ledger.new }
+    ensures history { Goes D.bytes D.may_leave Event.Other ledger.old ledger.new }
     ensures stays { OnErr result (KeepsMerge (shape_in ledger.old) (shape_in ledger.new)) }
     ensures policy { policy_in ledger.new ≡ policy_in ledger.old }
 {
@@ -105,7 +105,7 @@ pub fn delete<D: Directory + Shelf>(ledger: &mut Ledger<D>, id: &str) -> Result<
     ensures crash { Spares D.may_leave ledger.old ledger.new }
     ensures can { D.can_fail (device_in ledger.new) → D.can_fail (device_in ledger.old) }
     ensures rises { D.fault_count (device_in ledger.old) ≤ D.fault_count (device_in ledger.new) }
-    ensures history { Goes D.may_leave Event.Other ledger.old ledger.new }
+    ensures history { Goes D.bytes D.may_leave Event.Other ledger.old ledger.new }
     ensures policy { policy_in ledger.new ≡ policy_in ledger.old }
 {
     if !id_ok(id) {
@@ -133,7 +133,7 @@ pub fn delete_where<D: Directory + Shelf>(
     ensures crash { Spares D.may_leave ledger.old ledger.new }
     ensures can { D.can_fail (device_in ledger.new) → D.can_fail (device_in ledger.old) }
     ensures rises { D.fault_count (device_in ledger.old) ≤ D.fault_count (device_in ledger.new) }
-    ensures history { Goes D.may_leave Event.Other ledger.old ledger.new }
+    ensures history { Goes D.bytes D.may_leave Event.Other ledger.old ledger.new }
     ensures policy { policy_in ledger.new ≡ policy_in ledger.old }
 {
     let query = match read_query(alloc, ledger, text) {

@@ -11,35 +11,11 @@ ghost use Rattle.cat_ledger.specs.Answering.{AnswersSaid};
 ghost use Rattle.cat_ledger.specs.Histories.{Event, Goes};
 ghost use Rattle.cat_ledger.specs.Ledgers.{device_in, policy_in, shape_in};
 ghost use Rattle.cat_protocol.specs.replies.Reply.{reply_of};
-ghost use Rattle.cat_commands.specs.views.Holding.{AreRights};
 
 use cat_base::{Refusal, SessionNo, Token};
-use cat_cached_sets::Hold;
 use cat_directory::{Directory, Shelf};
 use cat_ledger::Ledger;
-use cat_ledger::cat_lifetimes::rights::Rights;
 use cat_protocol::replies::Answer;
-
-/// Gives back the right, which is the session's and is counted. It takes no memory.
-pub(crate) fn give_back<D: Directory + Shelf>(
-    ledger: &mut Ledger<D>,
-    session: SessionNo,
-    hold: Hold,
-)
-    requires own { hold.session ≡ session }
-    requires held { has_hold (shape_in ledger.old).holds session hold.view.token ≡ true }
-    ensures held { shape_in ledger.new ≡ letting_go session hold.view.token (shape_in ledger.old) }
-    ensures same { device_in ledger.new ≡ device_in ledger.old }
-    ensures policy { policy_in ledger.new ≡ policy_in ledger.old }
-{
-    match ledger.release(session, hold) {
-        Ok(_released) => {}
-        Err(hold) => {
-            hold.give_up();
-            unreachable!();
-        }
-    }
-}
 
 /// Answers a CLOSE: the session's right ends, and the answer is its token; the view may go then. It takes no memory. (Lucene:
 /// `SearcherLifetimeManager.release`.)
@@ -47,25 +23,21 @@ pub(crate) fn give_back<D: Directory + Shelf>(
 /// [`Refusal::NotHeld`] where the session doesn't hold the token, and only then; nothing changes then.
 pub fn close<D: Directory + Shelf>(
     ledger: &mut Ledger<D>,
-    rights: &mut Rights,
     session: SessionNo,
     token: Token,
 ) -> Result<Answer, Refusal>
-    requires { AreRights (shape_in ledger.old) rights.old }
     ensures answers { AnswersSaid D.bytes session (Said.close token) ledger.old (reply_of result) ledger.new }
-    ensures rights { AreRights (shape_in ledger.new) rights.new }
     ensures refusal { IfErr result (λ e. e ≡ NotHeld) }
     ensures due { has_hold (shape_in ledger.old).holds session token ≡ false → result ≡ Err NotHeld }
     ensures told { has_hold (shape_in ledger.old).holds session token ≡ true → reply_of result ≡ tells token }
     ensures held { OnOk result (shape_in ledger.new ≡ letting_go session token (shape_in ledger.old)) }
-    ensures err { OnErr result ((ledger.new ≡ ledger.old) × (rights.new ≡ rights.old)) }
+    ensures err { OnErr result (ledger.new ≡ ledger.old) }
     ensures same { device_in ledger.new ≡ device_in ledger.old }
-    ensures history { Goes D.may_leave Event.Other ledger.old ledger.new }
+    ensures history { Goes D.bytes D.may_leave Event.Other ledger.old ledger.new }
     ensures policy { policy_in ledger.new ≡ policy_in ledger.old }
 {
-    let Some(hold) = rights.remove(session, token) else {
+    if !ledger.let_go(session, token) {
         return Err(Refusal::NotHeld);
-    };
-    give_back(ledger, session, hold);
+    }
     Ok(Answer::Number(token))
 }

@@ -18,13 +18,11 @@ ghost use Rattle.cat_ledger.specs.Answering.{AnswersSaid};
 ghost use Rattle.cat_ledger.specs.Histories.{Event, Goes};
 ghost use Rattle.cat_ledger.specs.Ledgers.{device_in, policy_in, shape_in};
 ghost use Rattle.cat_protocol.specs.replies.Reply.{answer_of, reply_of};
-ghost use Rattle.cat_commands.specs.views.Holding.{AreRights};
 
 use cat_base::{Refusal, SessionNo, Token};
 use cat_directory::{Directory, Shelf};
 use cat_items::id_ok;
 use cat_ledger::Ledger;
-use cat_ledger::cat_lifetimes::rights::Rights;
 use cat_protocol::replies::Answer;
 
 /// Answers a GET: the bytes of the item of this id, as they were put before the view was recorded; none where no item has it.
@@ -36,12 +34,10 @@ use cat_protocol::replies::Answer;
 /// file is absent or ends too soon. So no bytes that are told go beyond their line. The ledger stays as it is in each case.
 pub fn get<D: Directory + Shelf>(
     ledger: &mut Ledger<D>,
-    rights: &Rights,
     session: SessionNo,
     token: Token,
     id: &str,
 ) -> Result<Answer, Refusal>
-    requires { AreRights (shape_in ledger.old) rights.now }
     ensures answers { AnswersSaid D.bytes session (Said.get token id.now) ledger.old (reply_of result) ledger.new }
     ensures wrong { IfErr (id_of id.now) (λ e. result ≡ Err e) }
     ensures due { id_of id.now ≡ Ok id.now → has_hold (shape_in ledger.old).holds session token ≡ false → result ≡ Err NotHeld }
@@ -59,16 +55,13 @@ pub fn get<D: Directory + Shelf>(
     ensures same { (q : FileName) → D.bytes (device_in ledger.new) q ≡ D.bytes (device_in ledger.old) q }
     ensures can { D.can_fail (device_in ledger.new) → D.can_fail (device_in ledger.old) }
     ensures rises { D.fault_count (device_in ledger.old) ≤ D.fault_count (device_in ledger.new) }
-    ensures history { Goes D.may_leave Event.Other ledger.old ledger.new }
+    ensures history { Goes D.bytes D.may_leave Event.Other ledger.old ledger.new }
     ensures policy { policy_in ledger.new ≡ policy_in ledger.old }
 {
     if !id_ok(id) {
         return Err(Refusal::Id);
     }
-    let Some(hold) = rights.get(session, token) else {
-        return Err(Refusal::NotHeld);
-    };
-    match ledger.source(hold, id) {
+    match ledger.source(session, token, id) {
         Ok(found) => Ok(Answer::Source(found)),
         Err(refusal) => Err(refusal),
     }

@@ -10,12 +10,10 @@ ghost use Rattle.cat_ledger_laws.specs.lines.ReadLaws.{IsRecordedAs};
 ghost use Rattle.cat_ledger.specs.Answering.{AnswersSaid, TellsNames};
 ghost use Rattle.cat_ledger.specs.Ledgers.{shape_in};
 ghost use Rattle.cat_protocol.specs.replies.Reply.{answer_of, reply_of};
-ghost use Rattle.cat_commands.specs.views.Holding.{AreRights};
 
 use cat_base::{Refusal, SessionNo, Token};
 use cat_directory::{Directory, Shelf};
 use cat_ledger::Ledger;
-use cat_ledger::cat_lifetimes::rights::Rights;
 use cat_protocol::replies::Answer;
 use std::alloc::{AllocError, Global};
 
@@ -26,21 +24,19 @@ use std::alloc::{AllocError, Global};
 pub fn files_of_token<D: Directory + Shelf>(
     alloc: Global,
     ledger: &Ledger<D>,
-    rights: &Rights,
     session: SessionNo,
     token: Token,
 ) -> Result<Answer, Refusal>
-    requires { AreRights (shape_in ledger.now) rights.now }
     ensures answers { AnswersSaid D.bytes session (Said.files_of_token token) ledger.now (reply_of result) ledger.now }
     ensures names { IfOk result (λ a. (view : View) × IsRecordedAs (shape_in ledger.now).views token view
         × TellsNames (needs view) (answer_of a)) }
     ensures due { has_hold (shape_in ledger.now).holds session token ≡ false → result ≡ Err NotHeld }
     ensures refusal { has_hold (shape_in ledger.now).holds session token ≡ true → IfErr result (λ e. e ≡ Memory) }
 {
-    let Some(hold) = rights.get(session, token) else {
+    let Some(view) = ledger.held_view(session, token) else {
         return Err(Refusal::NotHeld);
     };
-    match hold.files(alloc) {
+    match view.files(alloc) {
         Ok(names) => {
             let mut names = names;
             names.sort_unstable();

@@ -8,8 +8,9 @@ use Rattle.cat_protocol.specs.replies.Reply.{reply_of}
 use Rattle.cat_commands.specs.declared.ledger.chores.Chore.TheVariants.{Force, Merge, Stat, Sweep}
 use Rattle.cat_commands.specs.ledger.Chores.{chore_of}
 use Rattle.cat_commands.proofs.ledger.Answered.{at_zero}
-use Rattle.cat_commands.proofs.ledger.Kept.{behind_force, behind_none, behind_same, behind_so, goes_same, reach_any, reach_so}
+use Rattle.cat_commands.proofs.ledger.Kept.{behind_force, behind_none, behind_same, behind_so, reach_any, reach_so}
 use Rattle.cat_commands.proofs.ledger.Swept.{quiet_same}
+use Rattle.cat_ledger.proofs.Histories.{nothing_goes}
 use Rattle.cat_commands.proofs.ledger.chores.maintain.Goals as goal
 
 formless_differs : NoForm ≢ Damaged
@@ -82,10 +83,10 @@ returns-in-Stat-clause-answers g c =
     )
 
 pub returns-then-session-ne0-clause-history : goal.returns-then-session-ne0-clause-history
-returns-then-session-ne0-clause-history g c = goes_same g.D.Holder.may_leave c.args.ledger.now
+returns-then-session-ne0-clause-history g c = nothing_goes g.D.Holder.bytes g.D.Holder.may_leave c.args.ledger.now
 
 pub returns-in-Stat-clause-history : goal.returns-in-Stat-clause-history
-returns-in-Stat-clause-history g c = goes_same g.D.Holder.may_leave c.args.ledger.now
+returns-in-Stat-clause-history g c = nothing_goes g.D.Holder.bytes g.D.Holder.may_leave c.args.ledger.now
 
 pub returns-then-session-ne0-clause-keeps : goal.returns-then-session-ne0-clause-keeps
 returns-then-session-ne0-clause-keeps g c = behind_same c.args.chore (shape_in c.args.ledger.now)
@@ -188,3 +189,18 @@ returns-in-Sweep-clause-lacks g c = λ merges. absurd (merge_differs (sym merges
 
 pub returns-in-Stat-clause-lacks : goal.returns-in-Stat-clause-lacks
 returns-in-Stat-clause-lacks g c = λ merges. absurd (stat_is_none (sym c.in-Stat.is ∙ merges))
+
+pub returns-then-session-ne0-clause-untold : goal.returns-then-session-ne0-clause-untold
+returns-then-session-ne0-clause-untold g c = λ merges is. absurd (formless_differs is)
+
+pub returns-in-Merge-clause-untold : goal.returns-in-Merge-clause-untold
+returns-in-Merge-clause-untold g c = λ merges. c.merge.ensures.untold
+
+pub returns-in-Force-clause-untold : goal.returns-in-Force-clause-untold
+returns-in-Force-clause-untold g c = λ merges. absurd (force_is_none (sym c.in-Force.is ∙ merges))
+
+pub returns-in-Sweep-clause-untold : goal.returns-in-Sweep-clause-untold
+returns-in-Sweep-clause-untold g c = λ merges. absurd (merge_differs (sym merges ∙ c.in-Sweep.is))
+
+pub returns-in-Stat-clause-untold : goal.returns-in-Stat-clause-untold
+returns-in-Stat-clause-untold g c = λ merges. absurd (stat_is_none (sym c.in-Stat.is ∙ merges))

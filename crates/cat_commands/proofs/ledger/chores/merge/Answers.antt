@@ -15,3 +15,6 @@ returns-clause-quiet g c = c.merge_step-answer.ensures.quiet
 
 pub returns-clause-lacks : goal.returns-clause-lacks
 returns-clause-lacks g c = c.merge_step-answer.ensures.lacks
+
+pub returns-clause-untold : goal.returns-clause-untold
+returns-clause-untold g c = c.merge_step-answer.ensures.untold

@@ -31,3 +31,6 @@ returns-in-Err-clause-quiet g c = c.in-Err.ensures.memory
 
 pub returns-in-Err-clause-lacks : goal.returns-in-Err-clause-lacks
 returns-in-Err-clause-lacks g c = λ is. (c.in-Err.ensures.lacking is, c.in-Err.ensures.short is)
+
+pub returns-in-Err-clause-untold : goal.returns-in-Err-clause-untold
+returns-in-Err-clause-untold g c = c.in-Err.ensures.untold

@@ -6,7 +6,8 @@ use Rattle.cat_model.specs.Run.{Command}
 use Rattle.cat_ledger.specs.Ledgers.{device_in, policy_in, shape_in}
 use Rattle.cat_ledger_laws.proofs.lines.LineAnswers.{deletes_answer}
 use Rattle.cat_commands.proofs.ledger.Answered.{delete_refused, tells_same}
-use Rattle.cat_commands.proofs.ledger.Kept.{goes_same, unchanged}
+use Rattle.cat_commands.proofs.ledger.Kept.{unchanged}
+use Rattle.cat_ledger.proofs.Histories.{nothing_goes}
 use Rattle.cat_commands.proofs.ledger.writing.delete.Goals as goal
 
 pub returns-in-Ok-clause-answers : goal.returns-in-Ok-clause-answers
@@ -36,4 +37,4 @@ returns-in-Err-clause-answers g c = λ session.
     )
 
 pub returns-then-not-id_ok-clause-history : goal.returns-then-not-id_ok-clause-history
-returns-then-not-id_ok-clause-history g c = goes_same g.D.Holder.may_leave c.args.ledger.now
+returns-then-not-id_ok-clause-history g c = nothing_goes g.D.Holder.bytes g.D.Holder.may_leave c.args.ledger.now

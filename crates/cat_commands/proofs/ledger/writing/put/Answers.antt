@@ -7,7 +7,8 @@ use Rattle.cat_ledger.specs.Ledgers.{device_in, policy_in, shape_in}
 use Rattle.cat_ledger_laws.proofs.lines.LineAnswers.{puts_answer}
 use Rattle.cat_commands.proofs.ledger.Answered.{err_is, failure_differs, limit_differs, not_memory, put_refused, put_unread, tells_same}
 use Rattle.cat_commands.proofs.ledger.ItemFaults.{is_of_text}
-use Rattle.cat_commands.proofs.ledger.Kept.{goes_same, merge_same, unchanged}
+use Rattle.cat_commands.proofs.ledger.Kept.{merge_same, unchanged}
+use Rattle.cat_ledger.proofs.Histories.{nothing_goes}
 use Rattle.cat_commands.proofs.ledger.writing.put.Goals as goal
 
 pub returns-in-Err-clause-answers : goal.returns-in-Err-clause-answers
@@ -55,7 +56,7 @@ returns-in-Err-clause-spent g c = λ is.
     absurd ((is_of_text (shape_in c.args.ledger.now).schema c.args.text.now c.in-Err.refusal (c.in-Err.ensures.err (not_memory Spent limit_differs is))).1 is)
 
 pub returns-in-Err-clause-history : goal.returns-in-Err-clause-history
-returns-in-Err-clause-history g c = goes_same g.D.Holder.may_leave c.args.ledger.now
+returns-in-Err-clause-history g c = nothing_goes g.D.Holder.bytes g.D.Holder.may_leave c.args.ledger.now
 
 pub returns-in-Err-clause-counted : goal.returns-in-Err-clause-counted
 returns-in-Err-clause-counted g c = λ is.

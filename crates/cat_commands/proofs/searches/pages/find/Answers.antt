@@ -1,13 +1,13 @@
-use Rattle.std.proofs.Common.{◌≡◌, ◌∙◌, All, ap, inl, option_map, refl, subst, sym}
+use Rattle.std.proofs.Common.{◌≡◌, All, ap, inl, option_map, refl}
 use Rattle.std.specs.Prelude.{Err, Ok, Some}
 use Rattle.cat_model.specs.Answer.{Found, Read}
 use Rattle.cat_model.specs.Grammar.{Spells}
 use Rattle.cat_cached_sets.specs.cat_query.View.{query_of}
 use Rattle.cat_protocol.specs.cat_search.Sorts.{sort_of}
-use Rattle.cat_model.specs.View.{View, segments_of}
+use Rattle.cat_model.specs.View.{segments_of}
 use Rattle.cat_cached_sets.specs.filters.Known.{Knows}
-use Rattle.cat_commands.specs.searches.Uses.{NotesSpelled, Uses, UsesAndNotes, UsesSpelled}
-use Rattle.cat_commands.proofs.searches.Cached.{by_right, of_right, to_right, unchanged}
+use Rattle.cat_commands.specs.searches.Uses.{NotesSpelled, UsesSpelled}
+use Rattle.cat_commands.proofs.searches.Cached.{by_held, of_held, to_held, unchanged}
 use Rattle.cat_commands.specs.searches.Reads.{GivesDue}
 use Rattle.cat_protocol.specs.cat_search.Asks.{read_of}
 use Rattle.cat_model.specs.Query as model
@@ -19,30 +19,30 @@ returns-in_err-query-clause-told c =
     let ask = c.args.ask in
     rw (passed_on c.from_residual.result c.in_err-query.field-0.0 c.from_residual.ensures)
     (fault_told c.args.schema.now c.args.text.now (Read.find ask.count (sort_of ask.sort) ask.after) (find_is ask.count (sort_of ask.sort) ask.after)
-    (option_map (λ h. h.now.view) c.args.right) c.in_err-query.field-0.0 c.in_err-query.ensures.err)
+    (option_map (λ v. v.now) c.args.held) c.in_err-query.field-0.0 c.in_err-query.ensures.err)
 
 pub returns-in_default-clause-told : goal.returns-in_default-clause-told
 returns-in_default-clause-told c =
     let ask = c.args.ask in
     let q = c.in_ok-query.ensures.spelled in
     unheld_told c.args.schema.now c.args.text.now (Read.find ask.count (sort_of ask.sort) ask.after) (find_is ask.count (sort_of ask.sort) ask.after)
-    q.0 q.1 (option_map (λ h. h.now.view) c.args.right) (ap (option_map (λ h. h.now.view)) c.in_default.is)
+    q.0 q.1 (option_map (λ v. v.now) c.args.held) (ap (option_map (λ v. v.now)) c.in_default.is)
 
-pub returns-in_err-judge-clause-told : goal.returns-in_err-judge-clause-told
-returns-in_err-judge-clause-told c =
+pub returns-in_err-of-clause-told : goal.returns-in_err-of-clause-told
+returns-in_err-of-clause-told c =
     let ask = c.args.ask in
     let q = c.in_ok-query.ensures.spelled in
-    rw (passed_on c.from_residual-in_err-judge.result c.in_err-judge.field-0.0 c.from_residual-in_err-judge.ensures)
+    rw (passed_on c.from_residual-in_err-of.result c.in_err-of.field-0.0 c.from_residual-in_err-of.ensures)
     (found_told c.args.schema.now c.args.text.now (Read.find ask.count (sort_of ask.sort) ask.after) (find_is ask.count (sort_of ask.sort) ask.after)
-    q.0 q.1 (option_map (λ h. h.now.view) c.args.right) c.view-view.result.now
-    (ap (option_map (λ h. h.now.view)) c.in-Some.is ∙ ap Some (sym c.view-view.ensures)) (Err c.in_err-judge.field-0.0) (c.in_err-judge.ensures.err q.0))
+    q.0 q.1 (option_map (λ v. v.now) c.args.held) c.in-Some.view.now
+    (ap (option_map (λ v. v.now)) c.in-Some.is) (Err c.in_err-of.field-0.0) (c.in_err-of.ensures.err q.0))
 
 pub returns-in_default-query-clause-told : goal.returns-in_default-query-clause-told
 returns-in_default-query-clause-told c =
     let ask = c.args.ask in
     let q = c.in_ok-query.ensures.spelled in
     memory_told c.args.schema.now c.args.text.now (Read.find ask.count (sort_of ask.sort) ask.after) (find_is ask.count (sort_of ask.sort) ask.after)
-    q.0 q.1 (option_map (λ h. h.now.view) c.args.right)
+    q.0 q.1 (option_map (λ v. v.now) c.args.held)
 
 pub returns-in_err-page-clause-told : goal.returns-in_err-page-clause-told
 returns-in_err-page-clause-told c =
@@ -50,32 +50,32 @@ returns-in_err-page-clause-told c =
     let spelled : Spells c.args.schema.now c.args.text.now (query_of c.in-Some-query.query) = rw c.in-Some-query.is at c.in_ok-query.ensures.ok in
     rw (passed_on c.from_residual-in_err-page.result c.in_err-page.field-0.0 c.from_residual-in_err-page.ensures)
     (refusal_told c.args.schema.now c.args.text.now (Read.find ask.count (sort_of ask.sort) ask.after) (find_is ask.count (sort_of ask.sort) ask.after)
-    (query_of c.in-Some-query.query) spelled (option_map (λ h. h.now.view) c.args.right) c.view-view.result.now
-    (ap (option_map (λ h. h.now.view)) c.in-Some.is ∙ ap Some (sym c.view-view.ensures)) c.in_err-page.field-0.0 c.in_err-page.ensures.err)
+    (query_of c.in-Some-query.query) spelled (option_map (λ v. v.now) c.args.held) c.in-Some.view.now
+    (ap (option_map (λ v. v.now)) c.in-Some.is) c.in_err-page.field-0.0 c.in_err-page.ensures.err)
 
 pub returns-clause-told : goal.returns-clause-told
 returns-clause-told c =
     let ask = c.args.ask in
     let spelled : Spells c.args.schema.now c.args.text.now (query_of c.in-Some-query.query) = rw c.in-Some-query.is at c.in_ok-query.ensures.ok in
     found_told c.args.schema.now c.args.text.now (Read.find ask.count (sort_of ask.sort) ask.after) (find_is ask.count (sort_of ask.sort) ask.after)
-    (query_of c.in-Some-query.query) spelled (option_map (λ h. h.now.view) c.args.right) c.view-view.result.now
-    (ap (option_map (λ h. h.now.view)) c.in-Some.is ∙ ap Some (sym c.view-view.ensures)) (Ok (Found.page c.in_ok-page.page)) c.in_ok-page.ensures.ok
+    (query_of c.in-Some-query.query) spelled (option_map (λ v. v.now) c.args.held) c.in-Some.view.now
+    (ap (option_map (λ v. v.now)) c.in-Some.is) (Ok (Found.page c.in_ok-page.page)) c.in_ok-page.ensures.ok
 
 pub returns-in_err-query-clause-used : goal.returns-in_err-query-clause-used
 returns-in_err-query-clause-used c =
     rw (passed_on c.from_residual.result c.in_err-query.field-0.0 c.from_residual.ensures)
-    (unchanged (λ h. h.now.view) c.args.schema.now c.args.text.now c.args.filters.now c.args.right)
+    (unchanged (λ v. v.now) c.args.schema.now c.args.text.now c.args.filters.now c.args.held)
 
 pub returns-in_default-clause-used : goal.returns-in_default-clause-used
-returns-in_default-clause-used c = unchanged (λ h. h.now.view) c.args.schema.now c.args.text.now c.args.filters.now c.args.right
+returns-in_default-clause-used c = unchanged (λ v. v.now) c.args.schema.now c.args.text.now c.args.filters.now c.args.held
 
-pub returns-in_err-judge-clause-used : goal.returns-in_err-judge-clause-used
-returns-in_err-judge-clause-used c =
-    rw (passed_on c.from_residual-in_err-judge.result c.in_err-judge.field-0.0 c.from_residual-in_err-judge.ensures)
-    (unchanged (λ h. h.now.view) c.args.schema.now c.args.text.now c.args.filters.now c.args.right)
+pub returns-in_err-of-clause-used : goal.returns-in_err-of-clause-used
+returns-in_err-of-clause-used c =
+    rw (passed_on c.from_residual-in_err-of.result c.in_err-of.field-0.0 c.from_residual-in_err-of.ensures)
+    (unchanged (λ v. v.now) c.args.schema.now c.args.text.now c.args.filters.now c.args.held)
 
 pub returns-in_default-query-clause-used : goal.returns-in_default-query-clause-used
-returns-in_default-query-clause-used c = unchanged (λ h. h.now.view) c.args.schema.now c.args.text.now c.args.filters.now c.args.right
+returns-in_default-query-clause-used c = unchanged (λ v. v.now) c.args.schema.now c.args.text.now c.args.filters.now c.args.held
 
 pub returns-in_err-page-clause-used : goal.returns-in_err-page-clause-used
 returns-in_err-page-clause-used c =
@@ -84,8 +84,8 @@ returns-in_err-page-clause-used c =
     let new = c.page_of.new.filters in
     let spelled : Spells c.args.schema.now c.args.text.now q = rw c.in-Some-query.is at c.in_ok-query.ensures.ok in
     rw (passed_on c.from_residual-in_err-page.result c.in_err-page.field-0.0 c.from_residual-in_err-page.ensures)
-    (by_right (new ≡ old) (λ h. UsesSpelled c.args.schema.now c.args.text.now h.now.view old new) c.args.right c.in-Some.hold c.in-Some.is
-    (inl (q, spelled, subst (λ (v : View). Uses q v old new) c.view-view.ensures c.in_err-page.ensures.used)))
+    (by_held (new ≡ old) (λ v. UsesSpelled c.args.schema.now c.args.text.now v.now old new) c.args.held c.in-Some.view c.in-Some.is
+    (inl (q, spelled, c.in_err-page.ensures.used)))
 
 pub returns-clause-noted : goal.returns-clause-noted
 returns-clause-noted c =
@@ -93,22 +93,20 @@ returns-clause-noted c =
     let old = c.args.filters.now in
     let new = c.page_of.new.filters in
     let spelled : Spells c.args.schema.now c.args.text.now q = rw c.in-Some-query.is at c.in_ok-query.ensures.ok in
-    to_right (λ h. NotesSpelled c.args.schema.now c.args.text.now h.now.view old new) c.args.right c.in-Some.hold c.in-Some.is
-    (q, spelled, subst (λ (v : View). UsesAndNotes q v old new) c.view-view.ensures c.in_ok-page.ensures.noted)
+    to_held (λ v. NotesSpelled c.args.schema.now c.args.text.now v.now old new) c.args.held c.in-Some.view c.in-Some.is
+    (q, spelled, c.in_ok-page.ensures.noted)
 
 pub page_of-requires : goal.page_of-requires
 page_of-requires c =
-    subst (λ (v : View). All (Knows c.args.filters.now) (segments_of v.leaves)) (sym c.view-view.ensures)
-    (of_right (λ h. All (Knows c.args.filters.now) (segments_of h.now.view.leaves)) c.args.right c.in-Some.hold c.in-Some.is c.requires)
+    of_held (λ v. All (Knows c.args.filters.now) (segments_of v.now.leaves)) c.args.held c.in-Some.view c.in-Some.is c.requires
 
 pub returns-in_err-page-clause-due : goal.returns-in_err-page-clause-due
 returns-in_err-page-clause-due c =
     let ask = c.args.ask in
     let given = c.from_residual-in_err-page.result in
     let e = c.in_err-page.field-0.0 in
-    to_right (λ h. (q : model.Query) → Spells c.args.schema.now c.args.text.now q → GivesDue h.now.view (read_of ask q) given) c.args.right c.in-Some.hold c.in-Some.is
-    (λ q spelled. subst (λ (v : View). GivesDue v (read_of ask q) given) c.view-view.ensures
-    (due_passed c.view-view.result.now (read_of ask q) e (Err e) given refl (passed_on given e c.from_residual-in_err-page.ensures) (c.in_err-page.ensures.due q)))
+    to_held (λ v. (q : model.Query) → Spells c.args.schema.now c.args.text.now q → GivesDue v.now (read_of ask q) given) c.args.held c.in-Some.view c.in-Some.is
+    (λ q spelled. due_passed c.in-Some.view.now (read_of ask q) e (Err e) given refl (passed_on given e c.from_residual-in_err-page.ensures) (c.in_err-page.ensures.due q))
 
 pub returns-in_err-query-clause-unheld : goal.returns-in_err-query-clause-unheld
-returns-in_err-query-clause-unheld c = λ unheld right. absurd (right c.in_err-query.ensures.err.0 c.in_err-query.ensures.err.2)
+returns-in_err-query-clause-unheld c = λ unheld sound. absurd (sound c.in_err-query.ensures.err.0 c.in_err-query.ensures.err.2)

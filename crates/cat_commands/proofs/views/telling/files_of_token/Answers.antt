@@ -1,24 +1,22 @@
-use Rattle.std.proofs.Common.{refl, sym}
+use Rattle.std.proofs.Common.{refl}
 use Rattle.cat_model.specs.Run.{Command}
-use Rattle.cat_ledger.specs.cat_lifetimes.rights.Rights.{right_of}
 use Rattle.cat_ledger.specs.Ledgers.{device_in, policy_in, shape_in}
 use Rattle.cat_commands.proofs.views.Answered.{memory_refused}
 use Rattle.cat_commands.proofs.views.telling.files_of_token.Goals as goal
 
 pub returns-in-Ok-clause-names : goal.returns-in-Ok-clause-names
-returns-in-Ok-clause-names g c =
-    let there = sym {b = right_of c.args.rights.now c.args.session c.args.token} c.in-Some.ensures in (
-      c.in-Some.hold.now.view,
-      c.requires.views c.args.session c.args.token c.in-Some.hold.now there,
-      record {
-        listed = c.in-Ok.names.items;
-        names = c.sort_unstable.new.self.items;
-        all = c.in-Ok.ensures.ok;
-        same = c.sort_unstable.ensures.permutation;
-        rising = c.sort_unstable.ensures.sorted;
-        texts = refl;
-      },
-    )
+returns-in-Ok-clause-names g c = (
+  c.in-Some.view.now,
+  c.in-Some.ensures.some.1,
+  record {
+    listed = c.in-Ok.names.items;
+    names = c.sort_unstable.new.self.items;
+    all = c.in-Ok.ensures.ok;
+    same = c.sort_unstable.ensures.permutation;
+    rising = c.sort_unstable.ensures.sorted;
+    texts = refl;
+  },
+)
 
 pub returns-in-Err-clause-answers : goal.returns-in-Err-clause-answers
 returns-in-Err-clause-answers g c =
