@@ -9,7 +9,7 @@ use Rattle.cat_model.specs.CommitFile.{CommitFile}
 use Rattle.cat_model.specs.Item.{Record, Schema}
 use Rattle.cat_model.specs.Lines.{IsReadable}
 use Rattle.cat_model.specs.Served.{Begins, HasSchemaText, SpellsSchema}
-use Rattle.cat_model.specs.State.{IsFresh, StandsFor, has_hold, newest_told, opened_as}
+use Rattle.cat_model.specs.State.{IsFresh, StandsFor, newest_told, opened_as}
 use Rattle.cat_model.specs.Table.{Opened}
 use Rattle.cat_model.specs.Text.{Text}
 use Rattle.cat_model.proofs.Opening.{fresh_begins}
@@ -23,11 +23,10 @@ use Rattle.cat_ledger_laws.specs.shape.Ties.{Carries, ToldFiles}
 use Rattle.cat_ledger_laws.proofs.shape.Writes.{sweeps_make}
 use Rattle.cat_ledger_laws.specs.lines.RunLaws.{Stands}
 use Rattle.cat_commands.specs.cat_ledger_state.cat_commits.reading.Refused.{OpeningCount}
-use Rattle.cat_commands.specs.cat_ledger_state.startup.Opened.{HasOpened, IsOpenedAtCommit, IsOpenedEmpty}
+use Rattle.cat_commands.specs.cat_ledger_state.startup.Opened.{IsOpenedAtCommit, IsOpenedEmpty}
 use Rattle.cat_commands.specs.cat_ledger_state.startup.Refused.{IsNewestDamaged, IsNewestForeign}
 use Rattle.cat_commands.specs.cat_ledger.Openings.{IsOpenedLedger}
 use Rattle.cat_commands.proofs.ledger_laws.Swept.{KeepsUsed}
-use Rattle.cat_commands.specs.views.Holding.{AreRights}
 use Rattle.cat_service.specs.Opening.{BeginsIn, HoldsTable, OpensIn}
 use Rattle.cat_model.specs.Reasons.{CountsRefusal}
 use Rattle.cat_commands.specs.cat_ledger.Lasting.{IsCarried}
@@ -108,21 +107,6 @@ begun told told' schema s o = elim o.opened [
   | inl c ↦ at_commit told told' schema o.state s c o.swept o.kept
   | inr c ↦ empty told told' schema o.state s c o.swept o.kept
 ]
-
--- no token is held
-unheld : (told : ToldFiles) (schema : Schema) (told' : ToldFiles) (mid s : Shape) → HasOpened told schema told' mid → Leaves [] mid s → s.holds ≡ []
-unheld told schema told' mid s (inl o) swept = ap (λ (x : Shape). x.holds) swept.rest ∙ ap (λ (x : Shape). x.holds) o.memory
-unheld told schema told' mid s (inr o) swept = ap (λ (x : Shape). x.holds) swept.rest ∙ ap (λ (x : Shape). x.holds) o.memory
-
-rights_none : (s : Shape) → s.holds ≡ [] → AreRights s []
-rights_none s none = record {
-  held = λ session t. ap (λ hs. has_hold hs session t) none;
-  views = λ session t right is. absurd (let no : None ≡ Some right = is in cc);
-}
-
--- so no session has a right
-pub none_counted : (told told' : ToldFiles) (schema : Schema) (s : Shape) → IsOpenedLedger told schema told' s → AreRights s []
-none_counted told told' schema s o = rights_none s (unheld told schema told o.state s o.opened o.swept)
 
 -- a ledger is carried where one stands for a run
 pub carried_there : (told : ToldFiles) (s : Shape) (from : Opened) → Stands told s from [] → IsCarried told s

@@ -34,7 +34,6 @@ use Rattle.cat_ledger_laws.specs.shape.Shapes.{Shape}
 use Rattle.cat_ledger_laws.specs.shape.Ties.{ToldFiles}
 use Rattle.cat_commands.specs.cat_protocol.replies.Reply.{answer_of, reply_of}
 use Rattle.cat_commands.specs.cat_protocol.declared.replies.answer.Answer as code
-use Rattle.cat_commands.specs.cat_protocol.cat_views.Holds.{HeldView}
 use Rattle.cat_commands.specs.cat_protocol.cat_views.Sources.{HoldsSource, MayReachSource, TellsSource}
 use Rattle.cat_service.specs.Serving.{MayFailBy}
 use Rattle.cat_service.specs.Causes.{HasCause, IsDamagedTo, IsSpentTo, KeepsIfRefused, MayFailTo, MayReachTo, SweepsSo, TellsSo}
@@ -72,13 +71,13 @@ pub quiet_kept : {D : Type 0} (faults : D → ℕ) (old left : LedgerOnDevice D)
 quiet_kept faults old left (Ok a) same is = absurd (let no : ◌≡◌ {A = Reply} (Ok (answer_of a)) (Err Memory) = is in cc)
 quiet_kept faults old left (Err e) same is = ap (λ l. faults (device_in l)) same
 
-module _ {D : Type 0} (bytes : D → ToldFiles) (can_fail : D → Type 0) (faults : D → ℕ) (old : LedgerOnDevice D) (rights : List HeldView) (f : Filters)
-    (result : Result code.Answer Refusal) (left : LedgerOnDevice D) (rights' : List HeldView) (f' : Filters) where
+module _ {D : Type 0} (bytes : D → ToldFiles) (can_fail : D → Type 0) (faults : D → ℕ) (old : LedgerOnDevice D) (f : Filters)
+    (result : Result code.Answer Refusal) (left : LedgerOnDevice D) (f' : Filters) where
   abbrev world : Service D
-  world = record { ledger = old; rights = rights; sets = f }
+  world = record { ledger = old; sets = f }
 
   abbrev after : Service D
-  after = record { ledger = left; rights = rights'; sets = f' }
+  after = record { ledger = left; sets = f' }
 
   abbrev Counted : Type 0
   Counted = CountsOne (faults (device_in old)) (faults (device_in left))
@@ -179,7 +178,7 @@ module _ {D : Type 0} (bytes : D → ToldFiles) (can_fail : D → Type 0) (fault
           ∙ ap (λ plain. cond plain (Ok text) (Err WrongKind)) b
 
   -- what is told of a generation
-  commit_told : (may : D → FileName → FileContent → Type 0) (text : Text) (reply : Reply) (new : LedgerOnDevice D) → GoesBy may (Some (Said.commit text)) reply old new
+  commit_told : (may : D → FileName → FileContent → Type 0) (text : Text) (reply : Reply) (new : LedgerOnDevice D) → GoesBy bytes may (Some (Said.commit text)) reply old new
       → TellsSo (policy_in old) (shape_in old) f f' (Some (Said.commit text)) reply
   commit_told may text (Ok (Answer.number g)) new goes = (goes.asked g refl).0
   commit_told may text (Ok (Answer.found f)) new goes = tt
@@ -198,7 +197,7 @@ module _ {D : Type 0} (bytes : D → ToldFiles) (can_fail : D → Type 0) (fault
       → (commit_text_of text ≡ Ok text → IfErr result (λ e. e ≡ Spent → (last_number < (shape_in old).next_generation) ⊎ MayNotFlush (shape_in old)))
       → (commit_text_of text ≡ Ok text → IfErr result (λ e. e ≡ Device → can_fail (device_in old)))
       → (commit_text_of text ≡ Ok text → IfErr result (λ e. e ≡ Device → Counted)) → IfErr result (λ e. e ≡ Memory → Quiet)
-      → GoesBy may (Some (Said.commit text)) (reply_of result) old left → Rises → OnErr result KeepsMaking → Causes (Said.commit text)
+      → GoesBy bytes may (Some (Said.commit text)) (reply_of result) old left → Rises → OnErr result KeepsMaking → Causes (Said.commit text)
   commit_caused may text wrong spent device counted quiet goes rises stays = record {
     spent = λ k.
         given_so ((last_number < (shape_in old).next_generation) ⊎ MayNotFlush (shape_in old)) Spent result Spent

@@ -47,7 +47,7 @@ module _ {D : Type 0} (bytes : D → ToldFiles) (may_leave : D → FileName → 
   -- a line that says something, or has no form
   pub heard_as : (new : Service D) (line text : Text) (session : ℕ) (said : Option Said) (reply : Reply) → text ≡ line → IsReadable line
       → SpellsOrShows text session said → (steps : StepsLine bytes session said old reply new) → (shape_of_service new).schema ≡ (shape_of_service old).schema
-      → NamesFiles reply → GoesBy may_leave said reply old.ledger new.ledger
+      → NamesFiles reply → GoesBy bytes may_leave said reply old.ledger new.ledger
       → HasCause bytes can_fail faults old said reply new → TakesNumbers (shape_of_service old) (shape_of_service new) → policy_of new ≡ policy_of old
       → (can_fail (device_of new) → can_fail (device_of old))
       → StepsCaused bytes may_leave can_fail faults old (Some line) (told_to session steps.0 reply) new
@@ -59,7 +59,7 @@ module _ {D : Type 0} (bytes : D → ToldFiles) (may_leave : D → FileName → 
         names,
         steps.2,
         (λ k. wants_rightly (bytes (device_of old)) (shape_of_service old) session said steps.0 steps.1 (steps.3 k)),
-        goes_told may_leave old new (shape_of_service old).schema said steps.0 reply steps.1 goes cause.stays,
+        goes_told bytes may_leave old new (shape_of_service old).schema said steps.0 reply steps.1 goes cause.stays,
         (λ k. failing_by can_fail (device_of old) (shape_of_service old) (shape_of_service old).schema said steps.0 steps.1 (cause.device k)),
         can,
       ),

@@ -1,16 +1,15 @@
 -- Where a device tells of its files, none of those lacks bytes that a merge in the making copies from.
-use Rattle.std.proofs.Common.{◌≡◌, ◌≢◌, ℕ, zero, suc, ◌<◌, List, [], ◌∷◌, take, drop, length, map, sum, ap, arith, refl, sym, subst, ◌∙◌}
+use Rattle.std.proofs.Common.{◌≡◌, ◌≢◌, ℕ, zero, suc, List, [], ◌∷◌, take, drop, length, map, ap, arith, refl, sym, subst, ◌∙◌}
 use Rattle.std.specs.Prelude.{Option, Some, None, Any}
 use Rattle.std.specs.List.{AllByRecursion}
 use Rattle.cat_model.specs.Files.{Name}
-use Rattle.cat_model.specs.Item.{Record, Schema}
+use Rattle.cat_model.specs.Item.{Schema}
 use Rattle.cat_model.specs.Text.{Text}
-use Rattle.cat_model.specs.View.{Leaf, Row, row_of}
 use Rattle.cat_directory.specs.Devices.{Told}
 use Rattle.cat_directory.specs.declared.name.FileName.{FileName}
 use Rattle.cat_directory.specs.declared.name.FileName.TheVariants as file
 use Rattle.cat_ledger_laws.specs.model.Ledger.{Ledger}
-use Rattle.cat_ledger_laws.specs.model.Portions.{IsMerging, IsMergingOf, Merging, Portion, Reduced, leaf_of, portion_window_now}
+use Rattle.cat_ledger_laws.specs.model.Portions.{IsMerging, Merging, Portion, Reduced, leaf_of, portion_window_now}
 use Rattle.cat_ledger_laws.specs.model.Stored.{FileBytes, IsStored, joined_sources}
 use Rattle.cat_ledger_laws.specs.shape.Shapes.{Shape, merging_shape}
 use Rattle.cat_ledger_laws.specs.shape.Ties.{Carries, IsTold, ToldFiles, file_of}

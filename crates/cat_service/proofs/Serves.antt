@@ -5,11 +5,10 @@ use Rattle.std.specs.Prelude.{◌⊎◌, ◌<◌, Contains, IsTrue, Option, None
 use Rattle.std.proofs.lemmas.Bool.{cases_lt}
 use Rattle.std.proofs.lemmas.Bool.Decides.{nat_tests}
 use Rattle.cat_base.specs.declared.refusal.Refusal.{Refusal}
-use Rattle.cat_base.specs.declared.refusal.Refusal.TheVariants.{Device, Line as NoForm, Memory}
+use Rattle.cat_base.specs.declared.refusal.Refusal.TheVariants.{Device, Line as NoForm}
 use Rattle.cat_model.specs.Heard.{Heard, Hears}
 use Rattle.cat_model.specs.Item.{Schema}
 use Rattle.cat_model.specs.Lines.{IsReadable, Said}
-use Rattle.cat_model.specs.Files.{Name}
 use Rattle.cat_model.specs.Input.{ended_lines, lines_of}
 use Rattle.cat_model.specs.Answer.{Read}
 use Rattle.cat_model.specs.Run.{Chore, Command, Exchange, Fits, IsRun, Reply, Run, may_refuse, newest_commit, now}
@@ -28,13 +27,14 @@ use Rattle.cat_directory.specs.Devices.{FileContent, Told}
 use Rattle.cat_directory.specs.Names.{by_names, file_of, name_of}
 use Rattle.cat_directory.specs.declared.name.FileName.{FileName}
 use Rattle.cat_directory.specs.declared.name.FileName.TheVariants as file
-use Rattle.cat_commands.specs.cat_ledger.Histories.{Call, Event, IsHistory, LeavesNoneAhead, events_of, image_tells}
+use Rattle.cat_commands.specs.cat_ledger.Histories.{Call, Event, IsHistory, IsTried, IsUnanswered, LeavesNoneAhead, events_of, image_tells}
 use Rattle.cat_commands.specs.cat_ledger.Lasting.{AlwaysTells}
 use Rattle.cat_commands.specs.cat_ledger_state.startup.Newest.{IsNewestCommit}
 use Rattle.cat_ledger_laws.specs.model.Plans.{MergePolicy}
 use Rattle.cat_ledger_laws.specs.shape.Shapes.{Shape}
 use Rattle.cat_ledger_laws.specs.shape.Steps.{newest_generation}
 use Rattle.cat_ledger_laws.specs.shape.Ties.{ToldFiles}
+use Rattle.cat_ledger_laws.specs.shape.Tried.{TriedCommit}
 use Rattle.cat_ledger_laws.specs.lines.RunLaws.{Stands}
 use Rattle.cat_ledger_laws.proofs.lines.Held.{promised_are_held}
 use Rattle.cat_ledger_laws.proofs.shape.Told.{file_of_name}
@@ -44,14 +44,14 @@ use Rattle.cat_commands.specs.cat_protocol.declared.serving.machine.Stage.{Stage
 use Rattle.cat_commands.specs.cat_protocol.declared.serving.machine.Stage.TheVariants.{Open}
 use Rattle.cat_commands.specs.cat_protocol.declared.serving.machine.Unopened.{Unopened}
 use Rattle.cat_service.proofs.Begun.{formless_unasked}
-use Rattle.cat_service.proofs.Histories.{tolds_are_calls}
 use Rattle.cat_service.proofs.Reasoned.{reasoned}
 use Rattle.cat_service.proofs.Standing.{stands_first}
 use Rattle.cat_service.proofs.Opens.{begins_from}
 use Rattle.cat_service.proofs.Outlasted.{newest_number}
 use Rattle.cat_service.proofs.Settled.{newest_settled, own_left}
-use Rattle.cat_service.proofs.Survived.{HasRefused, found_so, survives, tried_by, tried_more, tried_refused, tries_so}
+use Rattle.cat_service.proofs.Survived.{FindsTables, HasRefused, HasTriedIn, Unanswering, found_so, none_tried, survives, tried_behind, tried_by, tried_here, tried_more, tried_refused, tries_so, unanswered_none}
 use Rattle.cat_service.proofs.Caused.{failing_on}
+use Rattle.cat_service.specs.Histories.{MakesEvent}
 use Rattle.cat_service.specs.Lines.{IsCommandOf}
 use Rattle.cat_service.specs.Opening.{OpensWorld}
 use Rattle.cat_service.specs.Promises.{WorldLasts}
@@ -174,8 +174,10 @@ module _ {D : Type 0} (bytes : D → ToldFiles) (may_leave : D → FileName → 
     pub last : List ℕ
     pub reasons : Reasons from past tried old (filter_map exchange fitting) last new
     pub calls : List (Call D)
-    pub history : IsHistory may_leave old.ledger calls new.ledger
+    pub history : IsHistory bytes may_leave old.ledger calls new.ledger
     pub refused : (g : ℕ) → HasRefused (events_of calls) g ⊎ Contains tried g → Contains last g
+    pub unanswered : TellsAlways kind → AllByRecursion IsUnanswered (events_of calls) → AllByRecursion Unanswering (filter_map exchange fitting)
+    pub was_tried : TellsAlways kind → (t : TriedCommit) → IsTried (events_of calls) t → HasTriedIn from (past ++ filter_map exchange fitting) t
 
   -- what is promised is held
   promise : (w : Service D) (from : Opened) (run : Run) → (shape_of_service w).schema ≡ from.start.schema → WorldLasts bytes may_leave w
@@ -211,6 +213,8 @@ module _ {D : Type 0} (bytes : D → ToldFiles) (may_leave : D → FileName → 
     calls = [];
     history = ap (λ (w : Service D). w.ledger) s;
     refused = λ g has. elim has [ inl none ↦ absurd none | inr there ↦ there ];
+    unanswered = λ tells all. tt;
+    was_tried = λ tells t was. absurd (none_tried t was);
   }
   steps_go fails from past tried old new [] (told ∷ outcomes) lasts can fields run stands s = absurd s
   steps_go fails from past tried old new (line ∷ lines) [] lasts can fields run stands s = absurd s
@@ -231,8 +235,10 @@ module _ {D : Type 0} (bytes : D → ToldFiles) (may_leave : D → FileName → 
         last = rest.last;
         reasons = subst (λ w. Reasons from past tried w (filter_map exchange rest.fitting) rest.last new) here.1 rest.reasons;
         calls = rest.calls;
-        history = subst (λ (w : Service D). IsHistory may_leave w.ledger rest.calls new.ledger) here.1 rest.history;
+        history = subst (λ (w : Service D). IsHistory bytes may_leave w.ledger rest.calls new.ledger) here.1 rest.history;
         refused = rest.refused;
+        unanswered = rest.unanswered;
+        was_tried = rest.was_tried;
       }
   steps_go fails from past tried old new (line ∷ lines) (Outcome.replied e ∷ outcomes) lasts can fields run stands (mid, step, steps) =
       let here = line_if_short old mid line (Outcome.replied e) (nat_lt 10000 (length line)) refl step.0 in
@@ -241,6 +247,8 @@ module _ {D : Type 0} (bytes : D → ToldFiles) (may_leave : D → FileName → 
       let event : Event = here.1.4.0 in
       let after : List ℕ = tried_by event ++ tried in
       let call : Call D = record { event = event; after = mid.ledger } in
+      let makes : TellsAlways kind → MakesEvent e.line.command next.0 event =
+      λ tells. subst (λ r. MakesEvent e.line.command r event) (next.1.same (always_tells tells (device_of old))) here.1.4.1 in
       let rest = steps_go fails from (past ++ fit ∷ []) after mid new lines outcomes lasts (λ k. can (here.1.6 k)) (here.1.0 ∙ fields) (runs_go_on from past fit run next.2) next.3 steps in record {
         fitting = Outcome.replied fit ∷ rest.fitting;
         heard_all = (subst (λ schema. Hears json schema line (Heard.a_line e.line)) fields here.0, rest.heard_all);
@@ -263,24 +271,25 @@ module _ {D : Type 0} (bytes : D → ToldFiles) (may_leave : D → FileName → 
           standing_of_service faults after mid,
           reason_by (AlwaysTells bytes) (TellsAlways kind) always_tells (policy_of old).factor (policy_of old).least from past (standing_of_service faults tried old) fit (standing_of_service faults after mid)
               (reasoned bytes can_fail faults tried after from past old mid e next.0 stands next.2 next.1 step.1
-              (tries_so may_leave event e.line.command e.reply old mid tried here.1.4.1 here.1.4.2)),
+              (tries_so bytes may_leave event e.line.command e.reply old mid tried here.1.4.1 here.1.4.2)),
           subst (λ (p : MergePolicy). HaveReasons (TellsAlways kind) p.factor p.least from (past ++ fit ∷ []) (standing_of_service faults after mid) (filter_map exchange rest.fitting) (standing_of_service faults rest.last new))
               step.1.5 rest.reasons,
         );
         calls = call ∷ rest.calls;
         history = (here.1.4.2, rest.history);
         refused = tried_more event (events_of rest.calls) tried rest.last rest.refused;
+        unanswered = λ tells all. (unanswered_none e.line.command next.0 event (makes tells) all.0, rest.unanswered tells all.1);
+        was_tried = λ tells t was.
+            elim (tried_behind event (events_of rest.calls) t was) [
+              | inl own ↦
+                  tried_here bytes may_leave from past (filter_map exchange rest.fitting) fit event old mid t (always_tells tells) stands (makes tells) here.1.4.2
+                  own.0 (rest.unanswered tells own.1)
+              | inr behind ↦
+                  subst (λ run. HasTriedIn from run t) (append_assoc past (fit ∷ []) (filter_map exchange rest.fitting)) (rest.was_tried tells t behind)
+            ];
       }
 
-  -- what each line was told is still so without its cause
-  steps_less : (old new : Service D) (lines : List (Option Text)) (outcomes : List Outcome) → Steps (StepsCaused bytes may_leave can_fail faults) old lines outcomes new
-      → Steps (StepsIfShort bytes may_leave can_fail) old lines outcomes new
-  steps_less old new [] [] s = s
-  steps_less old new [] (told ∷ outcomes) s = absurd s
-  steps_less old new (line ∷ lines) [] s = absurd s
-  steps_less old new (line ∷ lines) (told ∷ outcomes) (mid, step, steps) = (mid, step.0, steps_less mid new lines outcomes steps)
-
-  -- and what opened, without how it begins
+  -- what opened is still so without how it begins
   opening_less : (device : D) (line : Option Text) (r : Result (Service D) (Unopened D)) → OpensCaused bytes may_leave can_fail faults device line r
       → OpensIfShort bytes may_leave can_fail device line r
   opening_less device None r o = o
@@ -294,27 +303,25 @@ module _ {D : Type 0} (bytes : D → ToldFiles) (may_leave : D → FileName → 
 
   -- ---- what a crash leaves
 
-  -- What is found after a crash behind the lines that the machine stepped through.
-  survived : (opened last : Service D) (lines : List Text) (outcomes fitting : List Outcome) (from : Opened)
-      → Steps (StepsIfShort bytes may_leave can_fail) opened (map short_line lines) outcomes last → (tells : TellsAlways kind)
-      → LeavesNoneAhead may_leave opened.ledger → StageOutlives bytes may_leave (Open last) → outcomes ≡ fitting
-      → LeavesPromised kind (device_of last) from (filter_map exchange fitting)
-      → newest_generation (shape_of_service last).commits ≡ newest_commit from (filter_map exchange fitting)
-      → SurvivesCrash (kind.may_leave (device_of last)) from (filter_map exchange fitting)
-  survived opened last lines outcomes fitting from steps tells none laws same promised newest =
-      let calls = tolds_are_calls may_leave bytes can_fail opened last (map short_line lines) outcomes steps in
+  -- What is found after a crash behind calls in a row.
+  survived : (finds : FindsTables may_leave) (opened last : Service D) (from : Opened) (run : Run) (calls : List (Call D))
+      → IsHistory bytes may_leave opened.ledger calls last.ledger → (tells : TellsAlways kind)
+      → LeavesNoneAhead may_leave opened.ledger → StageOutlives bytes may_leave (Open last) → LeavesPromised kind (device_of last) from run
+      → newest_generation (shape_of_service last).commits ≡ newest_commit from run
+      → ((t : TriedCommit) → IsTried (events_of calls) t → HasTriedIn from run t)
+      → SurvivesCrash (kind.may_leave (device_of last)) from run
+  survived finds opened last from run calls history tells none laws promised newest was =
       let always : AlwaysTells bytes = always_tells tells in
-      survives (may_leave (device_of last)) from (filter_map exchange fitting) outcomes (events_of calls.0) (ap (filter_map exchange) same) calls.1
+      survives may_leave finds (device_of last) from run (events_of calls) was
       (λ image g crashed is.
-      elim (laws.0 opened.ledger calls.0 always none calls.2 image g crashed is) [ inl own ↦ inl (sym newest ∙ own) | inr tried ↦ inr tried ])
+      elim (laws.0 opened.ledger calls always none history image g crashed is) [ inl own ↦ inl (sym newest ∙ own) | inr tried ↦ inr tried ])
       (λ image crashed no. sym newest ∙ laws.1 always image crashed no)
       (λ g is image mended crashed kept gone.
-      let own = own_left (bytes (device_of last)) (may_leave (device_of last)) from (filter_map exchange fitting) g (always (device_of last))
-      (promised.outlasts tells) is image crashed in
+      let own = own_left (bytes (device_of last)) (may_leave (device_of last)) from run g (always (device_of last)) (promised.outlasts tells) is image crashed in
       newest_of_mended g mended own.0 (kept ∙ own.1) gone)
 
   -- the generations of commits that a crash leaves are taken
-  taken_so : (opened last : Service D) (from : Opened) (run : Run) (tried : List ℕ) (calls : List (Call D)) → IsHistory may_leave opened.ledger calls last.ledger
+  taken_so : (opened last : Service D) (from : Opened) (run : Run) (tried : List ℕ) (calls : List (Call D)) → IsHistory bytes may_leave opened.ledger calls last.ledger
       → (tells : TellsAlways kind) → LeavesNoneAhead may_leave opened.ledger → StageOutlives bytes may_leave (Open last)
       → newest_generation (shape_of_service last).commits ≡ newest_commit from run
       → ((g : ℕ) → HasRefused (events_of calls) g ⊎ Contains [] g → Contains tried g)
@@ -325,16 +332,16 @@ module _ {D : Type 0} (bytes : D → ToldFiles) (may_leave : D → FileName → 
         laws.2 opened.ledger calls (always_tells tells) none history image g crashed is,
         elim (laws.0 opened.ledger calls (always_tells tells) none history image g crashed is) [
           | inl own ↦ inl (sym newest ∙ own)
-          | inr was ↦ inr (refused g (inl (tried_refused (events_of calls) g was)))
+          | inr was ↦ inr (subst (Contains tried) was.1 (refused was.0.commit.generation (inl (tried_refused (events_of calls) was.0 was.2))))
         ],
       ))
 
   -- ---- the world serves
 
-  answered_in : (device : D) (first : Text) (lines : List Text) (text : Text)
+  answered_in : FindsTables may_leave → (device : D) (first : Text) (lines : List Text) (text : Text)
       → (a : IsAnsweredByMachine (OpensCaused bytes may_leave can_fail faults device) (StepsCaused bytes may_leave can_fail faults) (λ w. (shape_of_service w).count) first lines text)
       → WorldLasts bytes may_leave a.left → StageOutlives bytes may_leave (Open a.left) → IsCausedIn json kind device (device_of a.left) first lines text
-  answered_in device first lines text a lasts laws =
+  answered_in finds device first lines text a lasts laws =
       let long = nat_lt 10000 (length first) in
       let opened = opening_if_short device first a.opened long (opening_less device (if long then None else Some first) (Ok a.opened) a.begins) in
       let so = opening_so device first a.opened long a.begins in
@@ -354,8 +361,8 @@ module _ {D : Type 0} (bytes : D → ToldFiles) (may_leave : D → FileName → 
           failing = goes.failing;
           promised = goes.promised;
           survives = λ tells.
-              survived a.opened a.left lines a.outcomes goes.fitting opening.0 (steps_less a.opened a.left (map short_line lines) a.outcomes a.steps)
-              tells (opened.1 (always_tells tells)) laws (goes.same tells) goes.promised goes.newest;
+              survived finds a.opened a.left opening.0 (filter_map exchange goes.fitting) goes.calls goes.history tells (opened.1 (always_tells tells)) laws
+              goes.promised goes.newest (goes.was_tried tells);
           whole = a.whole ∙ ap (λ n. opened_text n ++ flat_map outcome_text a.outcomes) (counted (bytes (device_of a.opened)) (shape_of_service a.opened) opening.0 opening.3);
         };
         factor = (policy_of a.opened).factor;
@@ -409,7 +416,7 @@ module _ {D : Type 0} (bytes : D → ToldFiles) (may_leave : D → FileName → 
 
   -- ---- the stage that is left
 
-  module _ (device : D) (stage : Stage (Service D) D) (lasts : StageLasts bytes may_leave stage) (laws : StageOutlives bytes may_leave stage) where
+  module _ (finds : FindsTables may_leave) (device : D) (stage : Stage (Service D) D) (lasts : StageLasts bytes may_leave stage) (laws : StageOutlives bytes may_leave stage) where
     abbrev leads_to : List Text → Text → Type 0
     leads_to = LeadsTo (OpensCaused bytes may_leave can_fail faults) (StepsCaused bytes may_leave can_fail faults) (λ w. (shape_of_service w).count) device stage
 
@@ -430,7 +437,7 @@ module _ {D : Type 0} (bytes : D → ToldFiles) (may_leave : D → FileName → 
     some_answer [] text so = (ap device_at so.0, so.1)
     some_answer (first ∷ lines) text so =
         subst (λ d. IsCausedIn json kind device d first lines text) (sym (ap device_at so.1))
-        (answered_in device first lines text so.0 (subst (StageLasts bytes may_leave) so.1 lasts) (subst (StageOutlives bytes may_leave) so.1 laws))
+        (answered_in finds device first lines text so.0 (subst (StageLasts bytes may_leave) so.1 lasts) (subst (StageOutlives bytes may_leave) so.1 laws))
 
     some_refusal : (lines : List Text) (e : Refusal) → refused_at lines e → Refused Untouched refuses lines e
     some_refusal [] e so = (ap device_at so.0, so.1)

@@ -1,6 +1,6 @@
 -- What it tells of a line that memory was wanting, by the refusals that it was due otherwise.
 use Rattle.std.proofs.Common.{◌≡◌, ◌≢◌, ℕ, ◌<◌, ◌≤◌, List, [], ◌∷◌, length, map, Bool, true, false, cond, ◌&&◌, not, ltb, refl, sym, ◌∙◌, ap, subst, inl, inr}
-use Rattle.std.specs.Prelude.{◌⊎◌, ◌==◌, Option, None, Some, Result, Ok, Err, IfErr, IfSome, if◌then◌else◌, is_some, nat_lt, option_map}
+use Rattle.std.specs.Prelude.{◌⊎◌, ◌==◌, Option, None, Some, Result, Ok, Err, IfErr, IfSome, if◌then◌else◌, nat_lt}
 use Rattle.std.specs.List.{list_all, list_any}
 use Rattle.std.specs.Str.{is_utf8}
 use Rattle.std.proofs.lemmas.Bool.Decides.{eqb_tells, leb_tells}
@@ -23,8 +23,6 @@ use Rattle.cat_model.specs.Table.{Opened, Start}
 use Rattle.cat_model.specs.Text.{Text}
 use Rattle.cat_model.specs.View.{View}
 use Rattle.cat_items.specs.Reading.{json, source_fault, text_fault}
-use Rattle.cat_commands.specs.cat_protocol.cat_views.Holds.{HeldView}
-use Rattle.cat_commands.specs.cat_lifetimes.rights.Rights.{right_of}
 use Rattle.cat_commands.specs.cat_ledger_state.Cores.{MayNotFlush}
 use Rattle.cat_ledger_laws.specs.lines.LineLaws.{MayRefresh}
 use Rattle.cat_ledger_laws.specs.lines.ReadLaws.{kept_under}
@@ -41,8 +39,9 @@ use Rattle.cat_commands.specs.ledger.Chores.{MayRefuse, MayRefuseForce, chore_of
 use Rattle.cat_commands.specs.declared.ledger.chores.Chore as code_chore
 use Rattle.cat_commands.specs.declared.ledger.chores.Chore.TheVariants.{Force, Merge, Stat, Sweep}
 use Rattle.cat_ledger_laws.specs.model.Plans.{MergePolicy}
-use Rattle.cat_commands.specs.views.Holding.{AreRights, said_open}
+use Rattle.cat_commands.specs.views.Holding.{said_open}
 use Rattle.cat_commands.specs.searches.Reads.{GivesDue}
+use Rattle.cat_service.proofs.Beside.{IsLent}
 use Rattle.cat_service.proofs.OkDue.{commit_files_ok, commit_ok, chore_ok, delete_ok, facets_owed, find_owed, get_ok, held_read_ok, newest_ok, note_ok, ok_shaped, open_ok, other, prune_ok, refresh_ok, snap_ok, token_files_ok, unsnap_ok}
 use Rattle.cat_service.specs.Lines.{IsCommandOf}
 use Rattle.cat_service.specs.Wanting.{AsksUnheld, IsOkDue, MayWant, WantsRightly}
@@ -201,6 +200,7 @@ module _ (told : ToldFiles) (s : Shape) (session : ℕ) (result : Result code.An
       let left : s.next_generation ≤ last_number = no_more s.next_generation last_number (λ more. not_given Spent (λ is. cc is) (none right more).0) in (
         due_to (Command.commit (Ok text)) (commit_ok told s session text left) c (is ∙ ap (λ (i : Result Text Refusal). Command.commit i) right),
         of_memory (λ e. (e ≡ Memory) ⊎ (e ≡ Device) → MayNotFlush s → ⊥) due (inl refl),
+        left,
       )
     where
       by : (long plain : Bool) → ltb commit_text_limit (length text) ≡ long → list_all is_plain_byte text ≡ plain
@@ -254,69 +254,45 @@ module _ (told : ToldFiles) (s : Shape) (session : ℕ) (result : Result code.An
   maintained_wants policy Sweep foreign refusal c is = chore_due Chore.sweep foreign c is
   maintained_wants policy Stat foreign refusal c is = chore_due Chore.stat foreign c is
 
-  -- ---- what is looked for by a right
+  -- ---- what is looked for in a view that is held
 
-  module _ (t : ℕ) (rights : List HeldView) (are : AreRights s rights) (text : Text) (asked : Result Query Refusal → Read)
+  module _ {R : Type 0} (value : R → View) (t : ℕ) (text : Text) (asked : Result Query Refusal → Read)
       (owed : (schema : Schema) (rs : List Record) (q : Query) → IfErr (answer schema rs (asked (Ok q))) (λ e. result ≡ Err e)
       → (found : Found) × (answer schema rs (asked (Ok q)) ≡ Ok found)) where
-    -- by the right that the session has
-    by_right : (q : Query) (o : Option HeldView) → right_of rights session t ≡ o → (o ≡ None → result ≡ Err NotHeld)
-        → IfSome o (λ h. GivesDue h.view (asked (Ok q)) result) → IsOkDue told s session (Command.read t (asked (Ok q)))
-    by_right q None is unheld due = absurd (not_given NotHeld (λ is. cc is) (unheld refl))
-    by_right q (Some h) is unheld due =
-        ok_shaped told s session (Command.read t (asked (Ok q))) (λ l e.
-        held_read_ok s l e session t h.view (asked (Ok q)) (are.held session t ∙ ap is_some is) (are.views session t h is)
-        (λ rs shows. owed h.view.schema rs q (due rs shows)))
-
-    -- of the right as the code has it
-    right_due : {R : Type 0} (right : Option R) (value : R → HeldView) (P : HeldView → Type 0) → IfSome right (λ h. P (value h)) → IfSome (option_map value right) P
-    right_due None value P due = due
-    right_due (Some h) value P due = due
-
-    no_right : {R : Type 0} (right : Option R) (value : R → HeldView) → option_map value right ≡ None → right ≡ None
-    no_right None value is = refl
-    no_right (Some h) value is = absurd (let no : Some (value h) ≡ None = is in cc)
-
-    spelled_due : (q : Query) {R : Type 0} (right : Option R) (P : R → Query → Type 0) → Spells s.schema text q
-        → IfSome right (λ h. (q : Query) → Spells s.schema text q → P h q) → IfSome right (λ h. P h q)
-    spelled_due q None P spells due = due
-    spelled_due q (Some h) P spells due = due q spells
-
-    pub read_wants : {R : Type 0} (right : Option R) (value : R → HeldView) → option_map value right ≡ right_of rights session t
+    read_wants : (held : Option R) → IsLent s session t value held
         → ((place : ℕ) → Fault s.schema text place → result ≡ Err (NoQuery place))
-        → (right ≡ None → ((place : ℕ) → Fault s.schema text place → ⊥) → result ≡ Err NotHeld)
-        → IfSome right (λ h. (q : Query) → Spells s.schema text q → GivesDue (value h).view (asked (Ok q)) result)
+        → (held ≡ None → ((place : ℕ) → Fault s.schema text place → ⊥) → result ≡ Err NotHeld)
+        → IfSome held (λ v. (q : Query) → Spells s.schema text q → GivesDue (value v) (asked (Ok q)) result)
         → (r : Result Query Refusal) → IsQueryOf s.schema text r → IsOkDue told s session (Command.read t (asked r))
-    read_wants right value same fault unheld due _ (IsQueryOf.faulty place k) = absurd (not_given (NoQuery place) (λ is. cc is) (fault place k))
-    read_wants right value same fault unheld due _ (IsQueryOf.spelled q spells) =
-        by_right q (option_map value right) (sym same)
-        (λ none. unheld (no_right right value none) (λ place k. not_given (NoQuery place) (λ is. cc is) (fault place k)))
-        (right_due right value (λ h. GivesDue h.view (asked (Ok q)) result) (spelled_due q right (λ h q. GivesDue (value h).view (asked (Ok q)) result) spells due))
+    read_wants held lent fault unheld due _ (IsQueryOf.faulty place k) = absurd (not_given (NoQuery place) (λ is. cc is) (fault place k))
+    read_wants None lent fault unheld due _ (IsQueryOf.spelled q spells) =
+        absurd (not_given NotHeld (λ is. cc is) (unheld refl (λ place k. not_given (NoQuery place) (λ is. cc is) (fault place k))))
+    read_wants (Some v) lent fault unheld due _ (IsQueryOf.spelled q spells) =
+        ok_shaped told s session (Command.read t (asked (Ok q))) (λ l e.
+        held_read_ok s l e session t (value v) (asked (Ok q)) lent.some.0 lent.some.1 (λ rs shows. owed (value v).schema rs q (due q spells rs shows)))
 
   -- a FIND
-  pub find_wants : {R : Type 0} (right : Option R) (value : R → HeldView) (t : ℕ) (rights : List HeldView) → AreRights s rights
-      → (n : ℕ) (so sort : Sort) (mark : Option ℕ) (text : Text) → so ≡ sort → option_map value right ≡ right_of rights session t
-      → ((place : ℕ) → Fault s.schema text place → result ≡ Err (NoQuery place))
-      → (right ≡ None → ((place : ℕ) → Fault s.schema text place → ⊥) → result ≡ Err NotHeld)
-      → IfSome right (λ h. (q : Query) → Spells s.schema text q → GivesDue (value h).view (Read.find n so mark (Ok q)) result)
+  pub find_wants : {R : Type 0} (value : R → View) (held : Option R) (t : ℕ) → IsLent s session t value held
+      → (n : ℕ) (sort : Sort) (mark : Option ℕ) (text : Text) → ((place : ℕ) → Fault s.schema text place → result ≡ Err (NoQuery place))
+      → (held ≡ None → ((place : ℕ) → Fault s.schema text place → ⊥) → result ≡ Err NotHeld)
+      → IfSome held (λ v. (q : Query) → Spells s.schema text q → GivesDue (value v) (Read.find n sort mark (Ok q)) result)
       → SaysMayWant told s session (Said.find t n sort mark text)
-  find_wants right value t rights are n so sort mark text sorts same fault unheld due c is =
+  find_wants value held t lent n sort mark text fault unheld due c is =
       let ok =
-      read_wants t rights are text (λ q. Read.find n so mark q) (λ schema rs q left. find_owed result wants schema rs n so mark q left) right value same fault
-      unheld due is.0 is.1 in
-      due_to (Command.read t (Read.find n sort mark is.0)) (subst (λ x. IsOkDue told s session (Command.read t (Read.find n x mark is.0))) sorts ok) c is.2
+      read_wants value t text (λ q. Read.find n sort mark q) (λ schema rs q left. find_owed result wants schema rs n sort mark q left) held lent fault unheld due
+      is.0 is.1 in
+      due_to (Command.read t (Read.find n sort mark is.0)) ok c is.2
 
   -- a FACETS
-  pub facets_wants : {R : Type 0} (right : Option R) (value : R → HeldView) (t : ℕ) (rights : List HeldView) → AreRights s rights
-      → (dim : Text) (n : ℕ) (text : Text) → option_map value right ≡ right_of rights session t
-      → ((place : ℕ) → Fault s.schema text place → result ≡ Err (NoQuery place))
-      → (right ≡ None → ((place : ℕ) → Fault s.schema text place → ⊥) → result ≡ Err NotHeld)
-      → IfSome right (λ h. (q : Query) → Spells s.schema text q → GivesDue (value h).view (Read.facets dim n (Ok q)) result)
+  pub facets_wants : {R : Type 0} (value : R → View) (held : Option R) (t : ℕ) → IsLent s session t value held
+      → (dim : Text) (n : ℕ) (text : Text) → ((place : ℕ) → Fault s.schema text place → result ≡ Err (NoQuery place))
+      → (held ≡ None → ((place : ℕ) → Fault s.schema text place → ⊥) → result ≡ Err NotHeld)
+      → IfSome held (λ v. (q : Query) → Spells s.schema text q → GivesDue (value v) (Read.facets dim n (Ok q)) result)
       → SaysMayWant told s session (Said.facets t dim n text)
-  facets_wants right value t rights are dim n text same fault unheld due c is =
+  facets_wants value held t lent dim n text fault unheld due c is =
       let ok =
-      read_wants t rights are text (λ q. Read.facets dim n q) (λ schema rs q left. facets_owed result wants schema rs dim n q left) right value same fault
-      unheld due is.0 is.1 in
+      read_wants value t text (λ q. Read.facets dim n q) (λ schema rs q left. facets_owed result wants schema rs dim n q left) held lent fault unheld due
+      is.0 is.1 in
       due_to (Command.read t (Read.facets dim n is.0)) ok c is.2
 
 -- ---- behind a run

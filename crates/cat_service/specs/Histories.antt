@@ -3,13 +3,13 @@ use Rattle.std.specs.Prelude.{◌≡◌, ◌⊎◌, ℕ, List, [], ◌∷◌, Op
 use Rattle.cat_model.specs.Heard.{commit_text_of}
 use Rattle.cat_model.specs.Lines.{Said}
 use Rattle.cat_model.specs.Run.{Answer, Command, Reply}
-use Rattle.cat_model.specs.Served.{Outcome}
 use Rattle.cat_directory.specs.Devices.{FileContent}
 use Rattle.cat_directory.specs.declared.name.FileName.{FileName}
 use Rattle.cat_commands.specs.cat_protocol.lines.Line.{said_of}
 use Rattle.cat_commands.specs.cat_protocol.declared.lines.line.Line.{Line}
 use Rattle.cat_commands.specs.cat_ledger.Histories.{Call, Event, Goes, GoesBy, IsHistory, events_of}
 use Rattle.cat_ledger_laws.specs.shape.Ties.{ToldFiles}
+use Rattle.cat_ledger_laws.specs.shape.Tried.{TriedCommit}
 use Rattle.cat_commands.specs.cat_protocol.replies.Reply.{reply_of}
 use Rattle.cat_commands.specs.cat_protocol.declared.replies.reply.Reply as code
 use Rattle.cat_service.specs.Causes.{HasCause, StaysIfWrong}
@@ -24,20 +24,21 @@ pub record Spoken (D : Type 0) : Type 0 where
   pub after : Service D
 
 -- The lines lead from the one to the other, each of which makes of commits what it may by its reply, and changes nothing where it is a
--- COMMIT that is refused for its text. The first argument says what a crash may leave of a device's files.
-abbrev pub IsSpoken : {D : Type 0} → (D → FileName → FileContent → Type 0) → Service D → List (Spoken D) → Service D → Type 0
-IsSpoken {D} left first [] last = ◌≡◌ {A = Service D} last first
-IsSpoken {D} left first (x ∷ xs) last =
-    GoesBy left x.said x.reply first.ledger x.after.ledger × StaysIfWrong x.said first.ledger x.after.ledger × IsSpoken left x.after xs last
+-- COMMIT that is refused for its text. The first two arguments say what a device tells of its files, and what a crash may leave of them.
+abbrev pub IsSpoken : {D : Type 0} → (D → ToldFiles) → (D → FileName → FileContent → Type 0) → Service D → List (Spoken D) → Service D → Type 0
+IsSpoken {D} bytes left first [] last = ◌≡◌ {A = Service D} last first
+IsSpoken {D} bytes left first (x ∷ xs) last =
+    GoesBy bytes left x.said x.reply first.ledger x.after.ledger × StaysIfWrong x.said first.ledger x.after.ledger × IsSpoken bytes left x.after xs last
 
 -- ---- what they have to do with commits
 
 -- A COMMIT that was answered OK is an answered commit of the generation that it was told; one that was refused, but not for its text, is a
--- refused commit, or did nothing; and any other command has nothing to do with commits.
+-- refused commit that tried one of this text, or did nothing; and any other command has nothing to do with commits.
 abbrev pub MakesEvent : Command → Reply → Event → Type 0
 MakesEvent (Command.commit (Ok text)) (Ok (Answer.number g)) event = event ≡ Event.Answered g
 MakesEvent (Command.commit (Ok text)) (Ok a) event = ⊥
-MakesEvent (Command.commit (Ok text)) (Err e) event = (event ≡ Event.Other) ⊎ ((g : ℕ) × (event ≡ Event.Refused g))
+MakesEvent (Command.commit (Ok text)) (Err e) event =
+    (event ≡ Event.Other) ⊎ ((t : TriedCommit) × (t.commit.text ≡ text) × (event ≡ Event.Refused t))
 MakesEvent c reply event = event ≡ Event.Other
 
 -- so of what is said
@@ -52,10 +53,10 @@ AreEvents (x ∷ xs) (event ∷ events) = IsEventOf x.said x.reply event × AreE
 AreEvents _ _ = ⊥
 
 -- Lines are calls of the ledger, so that its laws speak of them: of the last COMMIT that was answered, and of those refused after it.
-abbrev pub LinesAreCalls : {D : Type 0} → (D → FileName → FileContent → Type 0) → Service D → Type 0
-LinesAreCalls {D} left last =
-    (first : Service D) (spoken : List (Spoken D)) → IsSpoken left first spoken last
-    → (calls : List (Call D)) × AreEvents spoken (events_of calls) × IsHistory left first.ledger calls last.ledger
+abbrev pub LinesAreCalls : {D : Type 0} → (D → ToldFiles) → (D → FileName → FileContent → Type 0) → Service D → Type 0
+LinesAreCalls {D} bytes left last =
+    (first : Service D) (spoken : List (Spoken D)) → IsSpoken bytes left first spoken last
+    → (calls : List (Call D)) × AreEvents spoken (events_of calls) × IsHistory bytes left first.ledger calls last.ledger
 
 -- ---- lines that are answered one after another
 
@@ -77,22 +78,11 @@ pub record RunsHistory {D : Type 0} (bytes : D → ToldFiles) (can_fail : D → 
     (old : Service D) (lines : List Line) (replies : List code.Reply) (new : Service D) : Type 0 where
   pub spoken : List (Spoken D)
   pub are : AreSpoken lines replies spoken
-  pub leads : IsSpoken left old spoken new
+  pub leads : IsSpoken bytes left old spoken new
   pub causes : HaveCauses bytes can_fail faults old spoken
 
 -- ---- lines that are served
 
--- what a line makes that was told something, or was unreadable
-abbrev pub MakesTold : Outcome → Event → Type 0
-MakesTold Outcome.unreadable event = event ≡ Event.Other
-MakesTold (Outcome.replied e) event = MakesEvent e.line.command e.reply event
-
--- so with each of the lines, in turn
-abbrev pub MakeTold : List Outcome → List Event → Type 0
-MakeTold [] [] = Unit {0}
-MakeTold (told ∷ tolds) (event ∷ events) = MakesTold told event × MakeTold tolds events
-MakeTold _ _ = ⊥
-
 -- what a command with its reply makes of commits, from one world to the next
-abbrev pub GoesTold : {D : Type 0} → (D → FileName → FileContent → Type 0) → Command → Reply → Service D → Service D → Type 0
-GoesTold left c reply old new = (event : Event) × MakesEvent c reply event × Goes left event old.ledger new.ledger
+abbrev pub GoesTold : {D : Type 0} → (D → ToldFiles) → (D → FileName → FileContent → Type 0) → Command → Reply → Service D → Service D → Type 0
+GoesTold bytes left c reply old new = (event : Event) × MakesEvent c reply event × Goes bytes left event old.ledger new.ledger

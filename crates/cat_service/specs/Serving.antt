@@ -52,7 +52,7 @@ ChangesByOutcome bytes may_leave can_fail old (Outcome.replied e) new =
     ((shape_of_service new).schema ≡ (shape_of_service old).schema) × NamesFiles e.reply
     × IsStep (bytes (device_of old)) (shape_of_service old) e.line e.reply (bytes (device_of new)) (shape_of_service new)
     × (e.reply ≡ Err Memory → WantsRightly (bytes (device_of old)) (shape_of_service old) e.line.session e.line.command)
-    × GoesTold may_leave e.line.command e.reply old new
+    × GoesTold bytes may_leave e.line.command e.reply old new
     × (e.reply ≡ Err Device → MayFailBy (can_fail (device_of old)) e.line.command)
     × (can_fail (device_of new) → can_fail (device_of old))
 

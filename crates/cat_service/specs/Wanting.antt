@@ -33,7 +33,8 @@ AsksUnheld s session token = (t : ℕ) × IsAsked s token t × (has_hold s.holds
 
 -- It may be told of what a session says, or of a line without a form, which is the command: so as behind each run. Of a PUT the text has
 -- neither too many bytes nor none, and they are UTF-8. An OPEN asks for a token that the session doesn't hold. There is a number for the
--- segment that a REFRESH or a COMMIT makes of what waits, or that a FORCE makes of all, and a FORCE has something to do.
+-- segment that a REFRESH or a COMMIT makes of what waits, or that a FORCE makes of all, and one for a COMMIT itself; and a FORCE has
+-- something to do.
 abbrev pub MayWant : ToldFiles → Shape → ℕ → Option Said → Command → Type 0
 MayWant told s session None c = ⊥
 MayWant told s session (Some (Said.close t)) c = ⊥
@@ -42,6 +43,6 @@ MayWant told s session (Some (Said.delete_where text)) c = (q : Query) × (c ≡
 MayWant told s session (Some Said.open_newest) c = IsOkDue told s session c × AsksUnheld s session None
 MayWant told s session (Some (Said.open_at t)) c = IsOkDue told s session c × AsksUnheld s session (Some t)
 MayWant told s session (Some Said.refresh) c = IsOkDue told s session c × (MayNotFlush s → ⊥)
-MayWant told s session (Some (Said.commit text)) c = IsOkDue told s session c × (MayNotFlush s → ⊥)
+MayWant told s session (Some (Said.commit text)) c = IsOkDue told s session c × (MayNotFlush s → ⊥) × (s.next_generation ≤ last_number)
 MayWant told s session (Some (Said.chore Chore.force)) c = IsOkDue told s session c × IsForceDue s × (s.next_segment ≤ last_number)
 MayWant told s session (Some said) c = IsOkDue told s session c

@@ -23,7 +23,7 @@ impl<D: Directory + Shelf> World<D> {
     /// Answers a line, whose session stands in the reply.
     fn answer(&mut self, line: &Line) -> Result<Answer, Refusal>
         ensures does { Does D.bytes D.can_fail D.fault_count line.now.session (said_of line.now.command) self.old (reply_of result) self.new }
-        ensures history { GoesBy D.may_leave (said_of line.now.command) (reply_of result) self.old.ledger self.new.ledger }
+        ensures history { GoesBy D.bytes D.may_leave (said_of line.now.command) (reply_of result) self.old.ledger self.new.ledger }
     {
         let session = line.session;
         match line.command {
@@ -76,7 +76,7 @@ impl<D: Directory + Shelf> World<D> {
         ensures run { StepsLine D.bytes line.now.session (said_of line.now.command) self.old (reply_of result.answer) self.new }
         ensures promised { KeepsPromises D.bytes self.new }
         ensures outlasts { OutlastsCrash D.bytes D.may_leave self.new }
-        ensures history { GoesBy D.may_leave (said_of line.now.command) (reply_of result.answer) self.old.ledger self.new.ledger }
+        ensures history { GoesBy D.bytes D.may_leave (said_of line.now.command) (reply_of result.answer) self.old.ledger self.new.ledger }
         ensures told { TellsNeeded (shape_of_service self.old) (said_of line.now.command) (reply_of result.answer) }
         ensures names { NamesFiles (reply_of result.answer) }
         ensures cause { HasCause D.bytes D.can_fail D.fault_count self.old (said_of line.now.command) (reply_of result.answer) self.new }

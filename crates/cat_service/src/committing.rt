@@ -14,7 +14,7 @@ impl<D: Directory + Shelf> World<D> {
     /// Answers a COMMIT.
     pub(crate) fn answer_commit(&mut self, text: &str) -> Result<Answer, Refusal>
         ensures does { (session : ℕ) → Does D.bytes D.can_fail D.fault_count session (Some (Said.commit text.now)) self.old (reply_of result) self.new }
-        ensures history { GoesBy D.may_leave (Some (Said.commit text.now)) (reply_of result) self.old.ledger self.new.ledger }
+        ensures history { GoesBy D.bytes D.may_leave (Some (Said.commit text.now)) (reply_of result) self.old.ledger self.new.ledger }
     {
         cat_commands::ledger::commit(&mut self.ledger, text)
     }
@@ -22,7 +22,7 @@ impl<D: Directory + Shelf> World<D> {
     /// Answers a SNAP.
     pub(crate) fn answer_snapshot(&mut self) -> Result<Answer, Refusal>
         ensures does { (session : ℕ) → Does D.bytes D.can_fail D.fault_count session (Some Said.snapshot) self.old (reply_of result) self.new }
-        ensures history { GoesBy D.may_leave (Some Said.snapshot) (reply_of result) self.old.ledger self.new.ledger }
+        ensures history { GoesBy D.bytes D.may_leave (Some Said.snapshot) (reply_of result) self.old.ledger self.new.ledger }
     {
         cat_commands::ledger::snapshot(&mut self.ledger)
     }
@@ -30,7 +30,7 @@ impl<D: Directory + Shelf> World<D> {
     /// Answers an UNSNAP.
     pub(crate) fn answer_unsnapshot(&mut self, generation: Generation) -> Result<Answer, Refusal>
         ensures does { (session : ℕ) → Does D.bytes D.can_fail D.fault_count session (Some (Said.release_snapshot generation)) self.old (reply_of result) self.new }
-        ensures history { GoesBy D.may_leave (Some (Said.release_snapshot generation)) (reply_of result) self.old.ledger self.new.ledger }
+        ensures history { GoesBy D.bytes D.may_leave (Some (Said.release_snapshot generation)) (reply_of result) self.old.ledger self.new.ledger }
     {
         cat_commands::ledger::release_snapshot(&mut self.ledger, generation)
     }

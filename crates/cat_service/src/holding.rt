@@ -19,9 +19,9 @@ impl<D: Directory + Shelf> World<D> {
         token: Option<Token>,
     ) -> Result<Answer, Refusal>
         ensures does { Does D.bytes D.can_fail D.fault_count session (Some (said_open token)) self.old (reply_of result) self.new }
-        ensures history { GoesBy D.may_leave (Some (said_open token)) (reply_of result) self.old.ledger self.new.ledger }
+        ensures history { GoesBy D.bytes D.may_leave (Some (said_open token)) (reply_of result) self.old.ledger self.new.ledger }
     {
-        cat_commands::views::open(&mut self.ledger, &mut self.rights, session, token)
+        cat_commands::views::open(&mut self.ledger, session, token)
     }
 
     /// Answers a CLOSE.
@@ -31,9 +31,9 @@ impl<D: Directory + Shelf> World<D> {
         token: Token,
     ) -> Result<Answer, Refusal>
         ensures does { Does D.bytes D.can_fail D.fault_count session (Some (Said.close token)) self.old (reply_of result) self.new }
-        ensures history { GoesBy D.may_leave (Some (Said.close token)) (reply_of result) self.old.ledger self.new.ledger }
+        ensures history { GoesBy D.bytes D.may_leave (Some (Said.close token)) (reply_of result) self.old.ledger self.new.ledger }
     {
-        cat_commands::views::close(&mut self.ledger, &mut self.rights, session, token)
+        cat_commands::views::close(&mut self.ledger, session, token)
     }
 
     /// Answers a FILES of a token.
@@ -44,7 +44,7 @@ impl<D: Directory + Shelf> World<D> {
     ) -> Result<Answer, Refusal>
         ensures does { Does D.bytes D.can_fail D.fault_count session (Some (Said.files_of_token token)) self.now (reply_of result) self.now }
     {
-        cat_commands::views::files_of_token(self.alloc, &self.ledger, &self.rights, session, token)
+        cat_commands::views::files_of_token(self.alloc, &self.ledger, session, token)
     }
 
     /// Answers a GET.
@@ -55,8 +55,8 @@ impl<D: Directory + Shelf> World<D> {
         id: &str,
     ) -> Result<Answer, Refusal>
         ensures does { Does D.bytes D.can_fail D.fault_count session (Some (Said.get token id.now)) self.old (reply_of result) self.new }
-        ensures history { GoesBy D.may_leave (Some (Said.get token id.now)) (reply_of result) self.old.ledger self.new.ledger }
+        ensures history { GoesBy D.bytes D.may_leave (Some (Said.get token id.now)) (reply_of result) self.old.ledger self.new.ledger }
     {
-        cat_commands::views::get(&mut self.ledger, &self.rights, session, token, id)
+        cat_commands::views::get(&mut self.ledger, session, token, id)
     }
 }

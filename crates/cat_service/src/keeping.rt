@@ -18,7 +18,7 @@ impl<D: Directory + Shelf> World<D> {
     /// Answers a REFRESH.
     pub(crate) fn answer_refresh(&mut self) -> Result<Answer, Refusal>
         ensures does { (session : ℕ) → Does D.bytes D.can_fail D.fault_count session (Some Said.refresh) self.old (reply_of result) self.new }
-        ensures history { GoesBy D.may_leave (Some Said.refresh) (reply_of result) self.old.ledger self.new.ledger }
+        ensures history { GoesBy D.bytes D.may_leave (Some Said.refresh) (reply_of result) self.old.ledger self.new.ledger }
     {
         cat_commands::ledger::refresh(&mut self.ledger)
     }
@@ -26,7 +26,7 @@ impl<D: Directory + Shelf> World<D> {
     /// Answers a PRUNE.
     pub(crate) fn answer_prune(&mut self, count: u64) -> Result<Answer, Refusal>
         ensures does { (session : ℕ) → Does D.bytes D.can_fail D.fault_count session (Some (Said.prune count)) self.old (reply_of result) self.new }
-        ensures history { GoesBy D.may_leave (Some (Said.prune count)) (reply_of result) self.old.ledger self.new.ledger }
+        ensures history { GoesBy D.bytes D.may_leave (Some (Said.prune count)) (reply_of result) self.old.ledger self.new.ledger }
     {
         cat_commands::ledger::prune(&mut self.ledger, count)
     }
@@ -38,7 +38,7 @@ impl<D: Directory + Shelf> World<D> {
         chore: Chore,
     ) -> Result<Answer, Refusal>
         ensures does { Does D.bytes D.can_fail D.fault_count session (Some (Said.chore (chore_of chore))) self.old (reply_of result) self.new }
-        ensures history { GoesBy D.may_leave (Some (Said.chore (chore_of chore))) (reply_of result) self.old.ledger self.new.ledger }
+        ensures history { GoesBy D.bytes D.may_leave (Some (Said.chore (chore_of chore))) (reply_of result) self.old.ledger self.new.ledger }
     {
         cat_commands::ledger::maintain(
             self.alloc,
@@ -52,7 +52,7 @@ impl<D: Directory + Shelf> World<D> {
     /// Answers a WARM.
     pub(crate) fn answer_warm(&mut self, session: SessionNo) -> Result<Answer, Refusal>
         ensures does { Does D.bytes D.can_fail D.fault_count session (Some (Said.chore run.Chore.warm)) self.old (reply_of result) self.new }
-        ensures history { GoesBy D.may_leave (Some (Said.chore run.Chore.warm)) (reply_of result) self.old.ledger self.new.ledger }
+        ensures history { GoesBy D.bytes D.may_leave (Some (Said.chore run.Chore.warm)) (reply_of result) self.old.ledger self.new.ledger }
     {
         // The segments of now agree with those of the recorded views, whose sets are kept too.
         segments_are_one();

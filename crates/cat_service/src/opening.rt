@@ -16,7 +16,6 @@ use cat_base::{MAX_LINE_BYTES, Refusal};
 use cat_commands::cat_cached_sets::filters::Filters;
 use cat_commands::cat_ledger::upkeep::MergePolicy;
 use cat_commands::cat_ledger::{Ledger, NotOpened};
-use cat_commands::cat_lifetimes::rights::Rights;
 use cat_commands::cat_protocol::ReaderStates;
 use cat_commands::cat_protocol::lines::SchemaLine;
 use cat_commands::cat_protocol::serving::Unopened;
@@ -96,7 +95,6 @@ impl<D: Directory + Shelf> World<D> {
             Ok(ledger) => Ok(World {
                 alloc,
                 ledger,
-                rights: Rights::new(alloc),
                 filters,
                 states,
             }),

@@ -24,11 +24,11 @@ impl<D: Directory + Shelf> World<D> {
         ensures does { Does D.bytes D.can_fail D.fault_count session
             (Some (Said.find find.entry.token find.entry.count (sort_of find.entry.sort) find.entry.mark find.entry.query.now))
             self.old (reply_of result) self.new }
-        ensures history { GoesBy D.may_leave
+        ensures history { GoesBy D.bytes D.may_leave
             (Some (Said.find find.entry.token find.entry.count (sort_of find.entry.sort) find.entry.mark find.entry.query.now))
             (reply_of result) self.old.ledger self.new.ledger }
     {
-        let right = self.rights.get(session, find.token);
+        let held = self.ledger.held_view(session, find.token);
         let ask = Ask {
             sort: find.sort,
             after: find.mark,
@@ -37,7 +37,7 @@ impl<D: Directory + Shelf> World<D> {
         cat_commands::searches::find(
             self.alloc,
             self.ledger.schema(),
-            right,
+            held,
             &mut self.filters,
             ask,
             find.query,
@@ -53,17 +53,17 @@ impl<D: Directory + Shelf> World<D> {
         ensures does { Does D.bytes D.can_fail D.fault_count session
             (Some (Said.facets facets.entry.token facets.entry.dimension.now facets.entry.count facets.entry.query.now))
             self.old (reply_of result) self.new }
-        ensures history { GoesBy D.may_leave
+        ensures history { GoesBy D.bytes D.may_leave
             (Some (Said.facets facets.entry.token facets.entry.dimension.now facets.entry.count facets.entry.query.now))
             (reply_of result) self.old.ledger self.new.ledger }
     {
-        let right = self.rights.get(session, facets.token);
+        let held = self.ledger.held_view(session, facets.token);
         // The segments of what is recorded agree on their numbers, which the kept states are found by.
         segments_are_one();
         cat_commands::searches::count_facets(
             self.alloc,
             self.ledger.schema(),
-            right,
+            held,
             &mut self.filters,
             &mut self.states,
             facets.dimension,

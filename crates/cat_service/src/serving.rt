@@ -8,8 +8,12 @@ ghost use Rattle.cat_commands.specs.cat_protocol.serving.Serving.{ended_as};
 ghost use Rattle.cat_service.specs.Serving.{StageLasts, StageOutlives, device_at};
 
 use crate::world::World;
+use cat_commands::cat_protocol::cat_segment::{
+    live_rows_are_told_by_their_bytes, segments_are_told_by_their_bytes,
+};
 use cat_commands::cat_protocol::serving::{ServeFault, Stage, serve_machine};
 use cat_directory::{Directory, Shelf};
+use cat_ledger_laws::lines::refused_are_found;
 use std::alloc::Global;
 use std::io::{Read, Write};
 
@@ -47,12 +51,12 @@ fn device_left<D: Directory + Shelf>(stage: Stage<World<D>, D>) -> D
 /// that length, and has no line feed either. In the directory that is left stand, as far as it tells of its files, those of
 /// every token that the run has recorded, held ones too, and of every commit that it keeps, with the table of each. Where such
 /// directories always tell of their files, a crash leaves those of the newest commit byte for byte: the commit that was opened,
-/// or that the last COMMIT was answered. What is found after the crash is that commit, or one of a COMMIT that was refused
-/// after it, but not for its text; and once the files of these are taken away, it is that commit. Where the schema line is
-/// refused, the files are as they were, also in whatever a crash may leave, and also where the write of that refusal fails; it
-/// is told that the device failed only where the directory can fail and counted one failure more, and none is counted behind
-/// another refusal. Where a read failed before any line had ended, or a write before any was to be answered, the directory is
-/// untouched.
+/// or that the last COMMIT was answered. What is found after the crash is that commit; or that of a COMMIT which was refused
+/// after it, but not for its text, with its text, the number of writes before it, and the table at that. Once the files of
+/// these are taken away, it is that commit. Where the schema line is refused, the files are as they were, also in whatever a
+/// crash may leave, and also where the write of that refusal fails; it is told that the device failed only where the directory
+/// can fail and counted one failure more, and none is counted behind another refusal. Where a read failed before any line had
+/// ended, or a write before any was to be answered, the directory is untouched.
 ///
 /// Each reply has its cause in how the service stands before its line, from the opening on, as [`World::step`] says of one
 /// line. That a number or a limit is spent is told only where one is; that the device failed, only where the directory
@@ -80,6 +84,9 @@ pub fn serve<D: Directory + Shelf, R: Read, W: Write>(
         (ended_as result.ended) }
 {
     let served = serve_machine::<World<D>, R, W>(alloc, device, reader, writer);
+    segments_are_told_by_their_bytes();
+    live_rows_are_told_by_their_bytes();
+    refused_are_found::<D>();
     Left {
         device: device_left(served.stage),
         ended: served.ended,

@@ -18,8 +18,8 @@ use cat_directory::{Directory, Shelf};
 /// - *agree*: where two began with one schema, one table and one number of writes, a read under a token that a session holds
 ///   is answered alike in both, if the writes up to that token have the same texts; whatever else either was told.
 /// - *found*: what a call leaves, also in a crash, opens at its last COMMIT that was answered OK, or else at the commit that it
-///   had opened, with its text, with the number of writes before it as token, and with the table at that token; or a COMMIT was
-///   refused since, but not for its text; or there was none.
+///   had opened, with its text, with the number of writes before it as token, and with the table at that token; or so at a
+///   COMMIT that was refused since, but not for its text; or there was none.
 /// - *afterwards*: where the next call found that commit under the same schema, a read under its token is answered alike in
 ///   both calls, in sessions that hold it.
 ///

@@ -1,4 +1,4 @@
-//! The world: a ledger, the rights that its sessions have, and what is kept beside it so that it needn't be made anew.
+//! The world: a ledger, and what is kept beside it so that it needn't be made anew.
 ghost use Rattle.std.specs.Prelude.{◌≡◌};
 ghost use Rattle.cat_service.specs.Promises.{WorldLasts};
 ghost use Rattle.cat_service.specs.Worlds.{device_of, shape_of_service};
@@ -6,7 +6,6 @@ ghost use Rattle.cat_service.specs.Worlds.{device_of, shape_of_service};
 use cat_base::WriteNo;
 use cat_commands::cat_cached_sets::filters::Filters;
 use cat_commands::cat_ledger::Ledger;
-use cat_commands::cat_lifetimes::rights::Rights;
 use cat_commands::cat_protocol::ReaderStates;
 use cat_directory::{Directory, Shelf};
 use cat_items::Schema;
@@ -14,11 +13,11 @@ use std::alloc::Global;
 use std::marker::Model;
 
 /// A catalogue in a directory with the sessions that speak to it. Each session has its own rights to views, which last until
-/// it gives them back itself. (Lucene: an `IndexWriter` with a `SearcherLifetimeManager`, and what its clients have acquired.)
+/// it gives them back itself; the ledger keeps them. (Lucene: an `IndexWriter` with a `SearcherLifetimeManager`.)
 ///
 /// It isn't dropped by leaving a scope: [`end`](World::end) gives its directory back.
 ///
-/// Contracts see it as its ledger, the list of the rights, and the sets of rows that are cached, with the noted queries and
+/// Contracts see it as its ledger, and the sets of rows that are cached, with the noted queries and
 /// the set in the making. Beside these it keeps states of facets. Sets and states make answers cheaper; of replies, only those
 /// to WARM and STAT tell of the sets, and none of the states. (Lucene: the `LRUQueryCache` of an `IndexSearcher`, and the
 /// `SortedSetDocValuesReaderState`s of a program.)
@@ -32,7 +31,6 @@ use std::marker::Model;
 pub struct World<D: Directory + Shelf> {
     pub(crate) alloc: Global,
     pub(crate) ledger: Ledger<D>,
-    pub(crate) rights: Rights,
     // The sets that queries find at hand, and the queries that are noted for more.
     pub(crate) filters: Filters,
     // The states that counts find at hand.
@@ -48,9 +46,9 @@ impl<D: Directory + Shelf> Model for World<D> {
 
     ghost coded = { Prim.hlevel (codes, query_code) };
 
-    ghost view = { λ w. record { ledger = w.ledger; rights = w.rights; sets = w.filters } };
+    ghost view = { λ w. record { ledger = w.ledger; sets = w.filters } };
 
-    ghost invariant = { λ w. IsWorld D.bytes w.ledger w.rights w.filters w.states };
+    ghost invariant = { λ w. IsWorld D.bytes w.ledger w.filters w.states };
 }
 
 impl<D: Directory + Shelf> World<D> {
@@ -78,7 +76,7 @@ impl<D: Directory + Shelf> World<D> {
         self.ledger.newest_lasts();
     }
 
-    /// Ends it: each right goes back to the ledger, and the directory is given out with its files as they stand. What waits,
+    /// Ends it: each right ends, and the directory is given out with its files as they stand. What waits,
     /// and what no commit has, isn't in them. It takes no memory. (Lucene: `SearcherLifetimeManager.close`, and then
     /// `IndexWriter.rollback`.)
     pub fn end(self) -> D
@@ -87,20 +85,9 @@ impl<D: Directory + Shelf> World<D> {
         let World {
             alloc: _,
             ledger,
-            rights,
             filters: _,
             states: _,
         } = self;
-        end_rights(rights);
         ledger.into_directory()
     }
-}
-
-/// Ends each of the rights. The ledger that counts them ends with them.
-fn end_rights(rights: Rights) {
-    let mut rights = rights;
-    'rights: while let Some(hold) = rights.pop() {
-        hold.give_up();
-    }
-    rights.destroy_empty();
 }

@@ -14,7 +14,7 @@ impl<D: Directory + Shelf> World<D> {
     /// Answers a PUT.
     pub(crate) fn answer_put(&mut self, text: &str) -> Result<Answer, Refusal>
         ensures does { (session : ℕ) → Does D.bytes D.can_fail D.fault_count session (Some (Said.put text.now)) self.old (reply_of result) self.new }
-        ensures history { GoesBy D.may_leave (Some (Said.put text.now)) (reply_of result) self.old.ledger self.new.ledger }
+        ensures history { GoesBy D.bytes D.may_leave (Some (Said.put text.now)) (reply_of result) self.old.ledger self.new.ledger }
     {
         cat_commands::ledger::put(self.alloc, &mut self.ledger, text)
     }
@@ -22,7 +22,7 @@ impl<D: Directory + Shelf> World<D> {
     /// Answers a DEL.
     pub(crate) fn answer_delete(&mut self, id: &str) -> Result<Answer, Refusal>
         ensures does { (session : ℕ) → Does D.bytes D.can_fail D.fault_count session (Some (Said.delete id.now)) self.old (reply_of result) self.new }
-        ensures history { GoesBy D.may_leave (Some (Said.delete id.now)) (reply_of result) self.old.ledger self.new.ledger }
+        ensures history { GoesBy D.bytes D.may_leave (Some (Said.delete id.now)) (reply_of result) self.old.ledger self.new.ledger }
     {
         cat_commands::ledger::delete(&mut self.ledger, id)
     }
@@ -30,7 +30,7 @@ impl<D: Directory + Shelf> World<D> {
     /// Answers a DELW.
     pub(crate) fn answer_delete_where(&mut self, text: &str) -> Result<Answer, Refusal>
         ensures does { (session : ℕ) → Does D.bytes D.can_fail D.fault_count session (Some (Said.delete_where text.now)) self.old (reply_of result) self.new }
-        ensures history { GoesBy D.may_leave (Some (Said.delete_where text.now)) (reply_of result) self.old.ledger self.new.ledger }
+        ensures history { GoesBy D.bytes D.may_leave (Some (Said.delete_where text.now)) (reply_of result) self.old.ledger self.new.ledger }
     {
         cat_commands::ledger::delete_where(self.alloc, &mut self.ledger, text)
     }

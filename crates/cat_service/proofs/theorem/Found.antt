@@ -1,44 +1,34 @@
 -- What a crash leaves of the newest commit is found with the run's table.
-use Rattle.std.proofs.Common.{inl, inr, ◌⊎◌, ◌≡◌, ◌≢◌, ℕ, ◌+◌, ◌<◌, ◌≤◌, leb, List, [], ◌∷◌, ◌++◌, length, Bool, true, false, cond, refl, sym, ◌∙◌, ap, ap₂, subst, arith, append-nil}
-use Rattle.std.specs.Prelude.{◌==◌, ◌&&◌, filter, Option, None, Some, Result, Ok, Err, Contains, count_by, filter_map, replicate}
+use Rattle.std.proofs.Common.{inl, inr, ◌⊎◌, ◌≡◌, ◌≢◌, ℕ, ◌<◌, ◌≤◌, leb, List, [], ◌∷◌, true, cond, refl, sym, ◌∙◌, ap, subst, arith, append-nil}
+use Rattle.std.specs.Prelude.{◌&&◌, filter, Option, None, Some, Result, Ok, Contains, filter_map}
 use Rattle.std.specs.List.{flat_map, AllByRecursion}
 use Rattle.std.proofs.lemmas.Bool.Decides.{eqb_tells, leb_tells}
 use Rattle.std.proofs.lemmas.List.Elements.{Contains-append_right}
-use Rattle.std.proofs.lemmas.List.Sums.{sum_by-cons}
 use Rattle.cat_base.specs.declared.refusal.Refusal.{Refusal}
-use Rattle.cat_model.specs.CommitFile.{CommitFile, ListedSegment, SpellsCommit, commit_needs, listed_names}
+use Rattle.cat_model.specs.CommitFile.{CommitFile, SpellsCommit, commit_needs, listed_names}
 use Rattle.cat_model.specs.Files.{Name}
 use Rattle.cat_model.specs.Item.{Record, Schema}
-use Rattle.cat_model.specs.Layout.{SpellsSegment}
-use Rattle.cat_model.specs.LiveFile.{LiveRows, SpellsLive}
-use Rattle.cat_model.specs.Run.{Command, Exchange, Reply, Run, commit_by, newest_commit, writes}
+use Rattle.cat_model.specs.Run.{Run, newest_commit, writes}
 use Rattle.cat_model.specs.Served.{Begins, exchange}
 use Rattle.cat_model.specs.Table.{Opened, Start, stands, table}
 use Rattle.cat_model.specs.Text.{Text}
 use Rattle.cat_model.specs.Told.{DirectoryKind, FileContent, IsNewestTold, IsTold, LeftByName, MayBeLeft, MayHave, Told, ToldByName, TellsAlways, TellsNoCommit, told_of}
-use Rattle.cat_model.specs.View.{Leaf, Segment, selected, sourced}
 use Rattle.cat_model.specs.Write.{Write}
-use Rattle.cat_model.specs.Restored.{AreLeavesOf, HasCommit, HasLiveFile, IsLeafOf}
-use Rattle.cat_model.specs.Opens.{BeginsAtNewest, BeginsFrom, HoldsCommit, MayHaveSources, OpensFrom}
-use Rattle.cat_model.specs.Promised.{HoldsGeneration, SurvivesCrash, refuses_commit}
+use Rattle.cat_model.specs.Restored.{HasCommit}
+use Rattle.cat_model.specs.Opens.{BeginsAtNewest, BeginsFrom, HoldsCommit, OpensFrom}
+use Rattle.cat_model.specs.Promised.{HoldsGeneration, IsRefusedCommit, SurvivesCrash}
 use Rattle.cat_model.specs.Serving.{IsServedIn}
-use Rattle.cat_model.specs.Found.{CallsAreFound, FindsAfterwards, FindsNewest, FindsRefused, ReadsAgreeAfterwards, RefusedSince, TellsJust}
+use Rattle.cat_model.specs.Found.{CallsAreFound, FindsAfterwards, FindsNewest, FindsRefused, ReadsAgreeAfterwards, TellsJust}
 use Rattle.cat_model.proofs.UpTo.{table-more}
 use Rattle.cat_model.proofs.CommitFiles.{commits_are_told_by_their_bytes}
 use Rattle.cat_items.specs.Laws.{HaveOneSchema}
 use Rattle.cat_items.specs.Reading.{json}
 use Rattle.cat_items.proofs.TalkTexts.{reads_lines}
-use Rattle.cat_ledger_laws.proofs.model.Users.{All-split}
+use Rattle.cat_ledger_laws.proofs.lines.SameTable.{Same, same_table}
+use Rattle.cat_ledger_laws.specs.lines.TriedLaws.{LiveAreTold, SegmentsAreTold}
 use Rattle.cat_service.specs.theorem.Openings.{DirectoriesOpenOneWay}
 use Rattle.cat_service.proofs.theorem.Calls.{call_said, sound}
 use Rattle.cat_service.proofs.theorem.Law.{reads_agree_where}
-
--- bytes are the file of one segment, and of one live set, at most
-abbrev pub SegmentsLaw : Type 0
-SegmentsLaw = (bytes : List ℕ) (s t : Segment) → SpellsSegment bytes s → SpellsSegment bytes t → s ≡ t
-
-abbrev pub LiveLaw : Type 0
-LiveLaw = (a : List ℕ) (r s : LiveRows) → SpellsLive a r → SpellsLive a s → r ≡ s
 
 some_text : (a b : Text) → ◌≡◌ {A = Option Text} (Some a) (Some b) → a ≡ b
 some_text a b e = cc
@@ -50,80 +40,9 @@ all_contained P (x ∷ xs) f = (f x (0, omega arith, refl), all_contained P xs (
 
 -- ---- two directories that hold one commit
 
--- the table of leaves, with these sources
-abbrev shown_by : (ℕ → Text) → List Leaf → List Record
-shown_by sources leaves = flat_map (λ leaf. selected leaf.live (sourced leaf.segment.rows (sources leaf.segment.number))) leaves
-
-module _ (segments : SegmentsLaw) (lives : LiveLaw) (one two : ToldByName) where
-  -- whatever both may have in the file of this name is the same
-  abbrev pub Same : Name → Type 0
-  Same q = (x y : Text) → MayHave one q x → MayHave two q y → x ≡ y
-
-  module _ (schema : Schema) where
-    same_live : (x : ListedSegment) (rows : ℕ) (a b : List Bool) (z : Bool) → cond z (a ≡ replicate rows true) (HasLiveFile (MayHave one) x a)
-        → cond z (b ≡ replicate rows true) (HasLiveFile (MayHave two) x b) → AllByRecursion Same (cond z [] (Name.live x.number x.file ∷ [])) → a ≡ b
-    same_live x rows a b true h k same = h ∙ sym k
-    same_live x rows a b false h k same =
-        let bytes : h.bytes ≡ k.bytes = same.0 h.bytes k.bytes h.there k.there in
-        ap (λ (r : LiveRows). r.live) (lives k.bytes (record { number = x.number; generation = x.file; live = a })
-        (record { number = x.number; generation = x.file; live = b })
-        (subst (λ t. SpellsLive t (record { number = x.number; generation = x.file; live = a })) bytes h.spelled) k.spelled)
-
-    same_leaf : (x : ListedSegment) (a b : Leaf) → IsLeafOf (MayHave one) schema x a → IsLeafOf (MayHave two) schema x b
-        → AllByRecursion Same (listed_names x) → a ≡ b
-    same_leaf x a b h k same =
-        let bytes : h.segment.bytes ≡ k.segment.bytes =
-        same.0 h.segment.bytes k.segment.bytes (subst (λ n. MayHave one (Name.segment n) h.segment.bytes) h.number h.segment.there)
-        (subst (λ n. MayHave two (Name.segment n) k.segment.bytes) k.number k.segment.there) in
-        let segment : a.segment ≡ b.segment =
-        segments k.segment.bytes a.segment b.segment (subst (λ t. SpellsSegment t a.segment) bytes h.segment.spelled) k.segment.spelled in
-        let mine : cond (x.file == 0) (a.live ≡ replicate (length b.segment.rows) true) (HasLiveFile (MayHave one) x a.live) =
-        subst (λ (s : Segment). cond (x.file == 0) (a.live ≡ replicate (length s.rows) true) (HasLiveFile (MayHave one) x a.live)) segment h.live in
-        let live : a.live ≡ b.live = same_live x (length b.segment.rows) a.live b.live (x.file == 0) mine k.live same.1.1 in
-        λ i. record { segment = segment i; live = live i }
-
-    same_leaves : (xs : List ListedSegment) (ls bs : List Leaf) → AreLeavesOf (MayHave one) schema xs ls → AreLeavesOf (MayHave two) schema xs bs
-        → AllByRecursion Same (flat_map listed_names xs) → ls ≡ bs
-    same_leaves [] [] [] h k same = refl
-    same_leaves [] [] (b ∷ bs) h k same = absurd k
-    same_leaves [] (a ∷ ls) bs h k same = absurd h
-    same_leaves (x ∷ xs) [] bs h k same = absurd h
-    same_leaves (x ∷ xs) (a ∷ ls) [] h k same = absurd k
-    same_leaves (x ∷ xs) (a ∷ ls) (b ∷ bs) h k same =
-        let parts = All-split Same (listed_names x) (flat_map listed_names xs) same in
-        ap₂ (λ (l : Leaf) (more : List Leaf). l ∷ more) (same_leaf x a b h.0 k.0 parts.0) (same_leaves xs ls bs h.1 k.1 parts.1)
-
-    same_sources : (xs : List ListedSegment) (leaves : List Leaf) → AreLeavesOf (MayHave one) schema xs leaves → AllByRecursion Same (flat_map listed_names xs)
-        → AllByRecursion (λ leaf. Same (Name.source leaf.segment.number)) leaves
-    same_sources [] [] h same = tt
-    same_sources [] (a ∷ ls) h same = absurd h
-    same_sources (x ∷ xs) [] h same = absurd h
-    same_sources (x ∷ xs) (a ∷ ls) h same =
-        let parts = All-split Same (listed_names x) (flat_map listed_names xs) same in
-        (subst (λ n. Same (Name.source n)) (sym h.0.number) parts.0.1.0, same_sources xs ls h.1 parts.1)
-
-  same_shown : (leaves : List Leaf) (mine theirs : ℕ → Text) → AllByRecursion (MayHaveSources one mine) leaves → AllByRecursion (MayHaveSources two theirs) leaves
-      → AllByRecursion (λ leaf. Same (Name.source leaf.segment.number)) leaves → shown_by mine leaves ≡ shown_by theirs leaves
-  same_shown [] mine theirs h k same = refl
-  same_shown (l ∷ leaves) mine theirs h k same =
-      ap₂ (λ (x y : List Record). x ++ y)
-      (ap (λ t. selected l.live (sourced l.segment.rows t)) (same.0 (mine l.segment.number) (theirs l.segment.number) h.0.there k.0.there))
-      (same_shown leaves mine theirs h.1 k.1 same.1)
-
-  -- so both have one table of the commit
-  pub same_table : (schema : Schema) (g h : ℕ) (c : CommitFile) (rs ss : List Record) → HoldsCommit one schema g c rs → HoldsCommit two schema h c ss
-      → AllByRecursion Same (flat_map listed_names c.segments) → rs ≡ ss
-  same_table schema g h c rs ss a b same =
-      let leaves : a.leaves ≡ b.leaves = same_leaves schema c.segments a.leaves b.leaves a.held.leaves b.held.leaves same in
-      a.table.shown
-      ∙ same_shown a.leaves a.table.sources b.table.sources a.table.stand
-      (subst (λ ls. AllByRecursion (MayHaveSources two b.table.sources) ls) (sym leaves) b.table.stand)
-      (same_sources schema c.segments a.leaves a.held.leaves same)
-      ∙ ap (shown_by b.table.sources) leaves
-      ∙ sym b.table.shown
-
-  -- and one commit where its own file is the same
-  pub same_commit : (g : ℕ) (c d : CommitFile) → HasCommit (MayHave one) g c → HasCommit (MayHave two) g d → Same (Name.commit g) → c ≡ d
+module _ (segments : SegmentsAreTold) (lives : LiveAreTold) (one two : ToldByName) where
+  -- they hold one commit where its own file is the same
+  pub same_commit : (g : ℕ) (c d : CommitFile) → HasCommit (MayHave one) g c → HasCommit (MayHave two) g d → Same segments lives one two (Name.commit g) → c ≡ d
   same_commit g c d h k same =
       let bytes : h.bytes ≡ k.bytes = same h.bytes k.bytes h.there k.there in
       commits_are_told_by_their_bytes k.bytes c d (subst (λ t. SpellsCommit t c) bytes h.spelled) k.spelled
@@ -141,7 +60,7 @@ content_told (Some content) a = refl
 
 -- ---- the newest commit
 
-module _ (segments : SegmentsLaw) (lives : LiveLaw) (told told₂ : ToldByName) (always : (q : Name) → told q ≢ None) (may : LeftByName) (image : Name → FileContent)
+module _ (segments : SegmentsAreTold) (lives : LiveAreTold) (told told₂ : ToldByName) (always : (q : Name) → told q ≢ None) (may : LeftByName) (image : Name → FileContent)
     (left : MayBeLeft may image) (just : TellsJust told₂ image) (from : Opened) (run : Run) (g : ℕ) (here : HoldsGeneration told from run g)
     (settled : (q : Name) → Contains (commit_needs here.commit) q → (now e : FileContent) → told q ≡ Some now → may q e → e ≡ now)
     (schema : Schema) (found : Opened) (b : BeginsAtNewest told₂ schema found) (number : b.generation ≡ g) where
@@ -185,70 +104,6 @@ module _ (segments : SegmentsLaw) (lives : LiveLaw) (told told₂ : ToldByName) 
         records = records ∙ ap (table from.start (writes run)) (sym token);
       }
 
--- ---- a commit that was refused
-
-abbrev refuses : Exchange → Bool
-refuses x = refuses_commit x.line.command x.reply
-
--- where some COMMIT was refused, one was
-record IsRefusedIn (run : Run) : Type 0 where
-  before : Run
-  here : Exchange
-  later : Run
-  split : run ≡ before ++ here ∷ later
-  refused : refuses here ≡ true
-
-counted_next : (x : Exchange) (xs : Run) → count_by refuses (x ∷ xs) ≡ cond (refuses x) 1 0 + count_by refuses xs
-counted_next x xs = sum_by-cons (λ y. cond (refuses y) 1 0) x xs
-
-some_refused : (run : Run) → 1 ≤ count_by refuses run → IsRefusedIn run
-some_refused [] some = absurd (omega (arith, some))
-some_refused (x ∷ xs) some = by (refuses x) refl (λ k. some_refused xs k)
-  where
-    by : (b : Bool) → refuses x ≡ b → (1 ≤ count_by refuses xs → IsRefusedIn xs) → IsRefusedIn (x ∷ xs)
-    by true e more = record { before = []; here = x; later = xs; split = refl; refused = e }
-    by false e more =
-        let none : count_by refuses (x ∷ xs) ≡ 0 + count_by refuses xs = counted_next x xs ∙ ap (λ b. cond b 1 0 + count_by refuses xs) e in
-        let rest : IsRefusedIn xs = more (omega (arith, some, none)) in
-        record { before = x ∷ rest.before; here = rest.here; later = rest.later; split = ap (λ r. x ∷ r) rest.split; refused = rest.refused }
-
--- what a command and its reply are that refuse a commit
-record IsRefusedCommit (c : Command) (r : Reply) : Type 0 where
-  text : Text
-  asked : c ≡ Command.commit (Ok text)
-  refusal : Refusal
-  refused : r ≡ Err refusal
-
-refused_so : (c : Command) (r : Reply) → refuses_commit c r ≡ true → IsRefusedCommit c r
-refused_so (Command.commit (Ok text)) (Err e) is = record { text = text; asked = refl; refusal = e; refused = refl }
-refused_so _ r is = absurd (let no : false ≡ true = is in cc)
-
-later_all : {X : Type 0} (P : X → Type 0) (before : List X) (x : X) (later : List X) → AllByRecursion P (before ++ x ∷ later) → AllByRecursion P later
-later_all P before x later a = (All-split P before (x ∷ later) a).1.1
-
-append_three : {X : Type 0} (a b : List X) (x : X) (c : List X) → a ++ (b ++ x ∷ c) ≡ (a ++ b) ++ x ∷ c
-append_three [] b x c = refl
-append_three (y ∷ a) b x c = ap (λ l. y ∷ l) (append_three a b x c)
-
-some_tried : (tried : List ℕ) (g : ℕ) → Contains tried g → 1 ≤ length tried
-some_tried tried g (k, within, is) = omega (arith, within)
-
-refused_since : (may : LeftByName) (from : Opened) (run : Run) (s : SurvivesCrash may from run) (g : ℕ) → Contains s.tried g → RefusedSince run
-refused_since may from run s g c =
-    let one = some_refused s.since (omega (arith, some_tried s.tried g c, s.few)) in
-    let so = refused_so one.here.line.command one.here.reply one.refused in record {
-      past = s.past ++ one.before;
-      here = one.here;
-      later = one.later;
-      split = s.split ∙ ap (λ r. s.past ++ r) one.split ∙ append_three s.past one.before one.here one.later;
-      text = so.text;
-      asked = so.asked;
-      refusal = so.refusal;
-      refused = so.refused;
-      none = later_all (λ x. commit_by x.line.command x.reply ≡ None) one.before one.here one.later
-          (subst (AllByRecursion (λ x. commit_by x.line.command x.reply ≡ None)) one.split s.none);
-    }
-
 -- ---- a commit above the newest
 
 -- the files without those of commits past g
@@ -272,10 +127,15 @@ some_content : (c : FileContent) → (◌≡◌ {A = Option FileContent} (Some c
 some_content None there = absurd (there refl)
 some_content (Some bytes) there = (bytes, refl)
 
+-- whatever commit and table are held at this generation are those of a COMMIT that was refused
+abbrev IsRefusedAt : Opened → Run → (Name → FileContent) → ℕ → Type 0
+IsRefusedAt from run image n = (schema : Schema) (commit : CommitFile) (records : List Record) → HoldsCommit (told_of image) schema n commit records
+    → IsRefusedCommit from run commit.text commit.token records
+
 -- The newest commit that is found is the run's newest; or it is above that, if there is one, and was tried.
 newest_or_above : (may : LeftByName) (from : Opened) (run : Run) (s : SurvivesCrash may from run) (image : Name → FileContent) → MayBeLeft may image
     → (n : ℕ) → IsNewestTold (told_of image) n
-    → (newest_commit from run ≡ Some n) ⊎ (((g : ℕ) → newest_commit from run ≡ Some g → g < n) × Contains s.tried n)
+    → (newest_commit from run ≡ Some n) ⊎ (((g : ℕ) → newest_commit from run ≡ Some g → g < n) × IsRefusedAt from run image n)
 newest_or_above may from run s image left n newest =
     elim (s.found image n left newest) [ inl is ↦ inl is | inr tried ↦ by (newest_commit from run) refl tried ]
   where
@@ -285,21 +145,23 @@ newest_or_above may from run s image left n newest =
         let here = some_content (image (Name.commit g)) (λ none. mended.there (ap (λ c. Some c) (own_stays g image) ∙ none)) in
         newest.greatest g here.0 (ap (λ c. Some c) here.1)
 
-    by : (o : Option ℕ) → newest_commit from run ≡ o → Contains s.tried n
-        → (newest_commit from run ≡ Some n) ⊎ (((g : ℕ) → newest_commit from run ≡ Some g → g < n) × Contains s.tried n)
+    by : (o : Option ℕ) → newest_commit from run ≡ o → IsRefusedAt from run image n
+        → (newest_commit from run ≡ Some n) ⊎ (((g : ℕ) → newest_commit from run ≡ Some g → g < n) × IsRefusedAt from run image n)
     by None is tried = inr (λ g other. absurd (let no : ◌≡◌ {A = Option ℕ} None (Some g) = sym is ∙ other in cc no), tried)
     by (Some k) is tried = elim (eqb_tells k n) [
       | inl e ↦ inl (is ∙ ap (λ m. Some m) e.1)
       | inr e ↦ inr (λ g other. let same : k ≡ g = (let one : ◌≡◌ {A = Option ℕ} (Some k) (Some g) = sym is ∙ other in cc one) in let low = most g other in omega (arith, same, low, e.1), tried)
     ]
 
-finds_refused : (told₂ : ToldByName) (from : Opened) (run : Run) (schema : Schema) (found : Opened) (b : BeginsAtNewest told₂ schema found)
-    → ((g : ℕ) → newest_commit from run ≡ Some g → g < b.generation) → RefusedSince run → FindsRefused from run found
-finds_refused told₂ from run schema found b above since = record {
+finds_refused : (told₂ : ToldByName) (image : Name → FileContent) → told₂ ≡ told_of image → (from : Opened) (run : Run) (schema : Schema) (found : Opened)
+    (b : BeginsAtNewest told₂ schema found) → ((g : ℕ) → newest_commit from run ≡ Some g → g < b.generation) → IsRefusedAt from run image b.generation
+    → FindsRefused from run found
+finds_refused told₂ image same from run schema found b above tried = record {
   commit = record { generation = b.commit.generation; text = b.commit.text };
   there = b.text;
   above = λ g is. let low = above g is in let number : b.commit.generation ≡ b.generation = b.held.held.commit.number in omega (arith, low, number);
-  since = since;
+  tried = subst (λ t. IsRefusedCommit from run b.commit.text t found.start.records) (sym b.token)
+      (tried schema b.commit found.start.records (subst (λ (told : ToldByName). HoldsCommit told schema b.generation b.commit found.start.records) same b.held));
 }
 
 -- ---- the law
@@ -307,7 +169,7 @@ finds_refused told₂ from run schema found b above since = record {
 same_told : (told : ToldByName) (image : Name → FileContent) → TellsJust told image → told ≡ told_of image
 same_told told image just = λ i. λ q. just q i
 
-module _ {D : Type 0} (kind : DirectoryKind D) (device left : D) (segments : SegmentsLaw) (lives : LiveLaw) (always : TellsAlways kind) (first : Text) (lines : List Text)
+module _ {D : Type 0} (kind : DirectoryKind D) (device left : D) (segments : SegmentsAreTold) (lives : LiveAreTold) (always : TellsAlways kind) (first : Text) (lines : List Text)
     (output : Text) (s : IsServedIn json kind device left first lines output) (image : Name → FileContent) (crashed : MayBeLeft (kind.may_leave left) image)
     (told₂ : ToldByName) (just : TellsJust told₂ image) where
   abbrev run : Run
@@ -323,7 +185,7 @@ module _ {D : Type 0} (kind : DirectoryKind D) (device left : D) (segments : Seg
         | inl newest ↦
             let here = s.promised.outlasts always b.generation newest in
             FindsAfterwards.newest (finds_newest segments lives (kind.bytes left) told₂ (always left) (kind.may_leave left) image crashed just s.from run b.generation here.0 here.1 schema found b refl newest)
-        | inr later ↦ FindsAfterwards.refused (finds_refused told₂ s.from run schema found b later.0 (refused_since (kind.may_leave left) s.from run lasts b.generation later.1))
+        | inr later ↦ FindsAfterwards.refused (finds_refused told₂ image (same_told told₂ image just) s.from run schema found b later.0 later.1)
       ]
   found_at schema found (inr e) =
       FindsAfterwards.none (record {
@@ -335,7 +197,7 @@ module _ {D : Type 0} (kind : DirectoryKind D) (device left : D) (segments : Seg
   pub found_by : (first₂ : Text) (found : Opened) → BeginsFrom json told₂ first₂ (Ok found) → FindsAfterwards s.from run found
   found_by first₂ found (Begins.opened f l text schema r readable a is opens) = found_at schema found opens
 
-pub calls_are_found : SegmentsLaw → LiveLaw → {D E : Type 0} (kind : DirectoryKind D) (kind₂ : DirectoryKind E) → CallsAreFound json kind kind₂
+pub calls_are_found : SegmentsAreTold → LiveAreTold → {D E : Type 0} (kind : DirectoryKind D) (kind₂ : DirectoryKind E) → CallsAreFound json kind kind₂
 calls_are_found segments lives kind kind₂ always device left first lines output s image crashed device₂ first₂ found just begins =
     found_by kind device left segments lives always first lines output s image crashed (kind₂.bytes device₂) just first₂ found begins
 
@@ -373,7 +235,7 @@ held_told : (t : Told) → t ≢ None → (a b : Text) → IsTold t (Some a) →
 held_told None n a b h k = absurd (n refl)
 held_told (Some content) n a b h k = some_text a b (sym h ∙ k)
 
-module _ (segments : SegmentsLaw) (lives : LiveLaw) (told : ToldByName) (always : (q : Name) → told q ≢ None) (schema : Schema) (one two : Opened)
+module _ (segments : SegmentsAreTold) (lives : LiveAreTold) (told : ToldByName) (always : (q : Name) → told q ≢ None) (schema : Schema) (one two : Opened)
     (a : BeginsAtNewest told schema one) (b : BeginsAtNewest told schema two) where
   most : a.generation ≤ b.generation
   most = let t = there_told (told (Name.commit a.generation)) (always (Name.commit a.generation)) a.newest.there in b.newest.greatest a.generation t.0 t.1
@@ -404,7 +266,7 @@ module _ (segments : SegmentsLaw) (lives : LiveLaw) (told : ToldByName) (always 
       a.text ∙ ap (λ (x : CommitFile). Some (record { generation = x.generation; text = x.text })) commits_alike ∙ sym b.text in
       λ i. record { start = record { schema = fields i; records = records i; token = token i }; commit = commit i }
 
-opened_both : SegmentsLaw → LiveLaw → (told : ToldByName) → ((q : Name) → told q ≢ None) → (schema : Schema) (one two : Opened) → OpensFrom told schema (Ok one)
+opened_both : SegmentsAreTold → LiveAreTold → (told : ToldByName) → ((q : Name) → told q ≢ None) → (schema : Schema) (one two : Opened) → OpensFrom told schema (Ok one)
     → OpensFrom told schema (Ok two) → one ≡ two
 opened_both segments lives told always schema one two (inl a) (inl b) = opened_one segments lives told always schema one two a b
 opened_both segments lives told always schema one two (inl a) (inr b) =
@@ -413,7 +275,7 @@ opened_both segments lives told always schema one two (inr a) (inl b) =
     let t = there_told (told (Name.commit b.generation)) (always (Name.commit b.generation)) b.newest.there in absurd (a.0 b.generation t.0 t.1)
 opened_both segments lives told always schema one two (inr a) (inr b) = a.1 ∙ sym b.1
 
-opened_lines : SegmentsLaw → LiveLaw → (told : ToldByName) → ((q : Name) → told q ≢ None) → (first₁ first₂ : Text) (one two : Opened) → HaveOneSchema first₁ first₂
+opened_lines : SegmentsAreTold → LiveAreTold → (told : ToldByName) → ((q : Name) → told q ≢ None) → (first₁ first₂ : Text) (one two : Opened) → HaveOneSchema first₁ first₂
     → BeginsFrom json told first₁ (Ok one) → BeginsFrom json told first₂ (Ok two) → one ≡ two
 opened_lines segments lives told always first₁ first₂ one two same (Begins.opened f l text schema r readable a is opens) (Begins.opened g k text' schema' r' readable' b is' opens') =
     let schemas : schema' ≡ schema = ok_value (sym is' ∙ sym (same f l g k text text' a b) ∙ is) in
@@ -422,6 +284,6 @@ opened_lines segments lives told always first₁ first₂ one two same (Begins.o
     ok_value : ◌≡◌ {A = Result Schema Refusal} (Ok schema') (Ok schema) → schema' ≡ schema
     ok_value e = cc e
 
-pub open_one_way : SegmentsLaw → LiveLaw → DirectoriesOpenOneWay
+pub open_one_way : SegmentsAreTold → LiveAreTold → DirectoriesOpenOneWay
 open_one_way segments lives told₁ told₂ always same first₁ first₂ one two schemas b c =
     opened_lines segments lives told₁ always first₁ first₂ one two schemas b (subst (λ t. BeginsFrom json t first₂ (Ok two)) (λ i. λ q. sym (same q) i) c)

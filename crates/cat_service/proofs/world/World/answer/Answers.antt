@@ -3,9 +3,9 @@ use Rattle.std.specs.Prelude.{Err}
 use Rattle.cat_base.specs.declared.refusal.Refusal.TheVariants.{Line as NoForm, Memory}
 use Rattle.cat_model.specs.Run.{Command, Reply}
 use Rattle.cat_ledger_laws.proofs.lines.RefusalAnswers.{faults_answer}
-use Rattle.cat_commands.proofs.ledger_laws.Histories.{nothing_goes}
 use Rattle.cat_service.specs.Worlds.{device_of, policy_of, shape_of_service}
 use Rattle.cat_service.proofs.Hearing.{open_says}
+use Rattle.cat_service.proofs.Histories.{nothing_goes}
 use Rattle.cat_service.proofs.Names.{refused}
 use Rattle.cat_service.proofs.world.World.answer.Goals as goal
 
@@ -30,7 +30,7 @@ returns-in-NoForm-clause-does g c = rw c.in-NoForm.is (record {
 })
 
 pub returns-in-NoForm-clause-history : goal.returns-in-NoForm-clause-history
-returns-in-NoForm-clause-history g c = rw c.in-NoForm.is (nothing_goes g.D.Holder.may_leave c.args.self.now.ledger)
+returns-in-NoForm-clause-history g c = rw c.in-NoForm.is (nothing_goes g.D.Holder.bytes g.D.Holder.may_leave c.args.self.now.ledger)
 
 pub returns-in-Put-clause-does : goal.returns-in-Put-clause-does
 returns-in-Put-clause-does g c = rw c.in-Put.is (c.answer_put.ensures.does c.args.line.now.session)
@@ -90,13 +90,13 @@ pub returns-in-FilesOfToken-clause-does : goal.returns-in-FilesOfToken-clause-do
 returns-in-FilesOfToken-clause-does g c = rw c.in-FilesOfToken.is c.answer_view_files.ensures.does
 
 pub returns-in-FilesOfToken-clause-history : goal.returns-in-FilesOfToken-clause-history
-returns-in-FilesOfToken-clause-history g c = rw c.in-FilesOfToken.is (nothing_goes g.D.Holder.may_leave c.args.self.now.ledger)
+returns-in-FilesOfToken-clause-history g c = rw c.in-FilesOfToken.is (nothing_goes g.D.Holder.bytes g.D.Holder.may_leave c.args.self.now.ledger)
 
 pub returns-in-FilesOfCommit-clause-does : goal.returns-in-FilesOfCommit-clause-does
 returns-in-FilesOfCommit-clause-does g c = rw c.in-FilesOfCommit.is (c.answer_commit_files.ensures.does c.args.line.now.session)
 
 pub returns-in-FilesOfCommit-clause-history : goal.returns-in-FilesOfCommit-clause-history
-returns-in-FilesOfCommit-clause-history g c = rw c.in-FilesOfCommit.is (nothing_goes g.D.Holder.may_leave c.args.self.now.ledger)
+returns-in-FilesOfCommit-clause-history g c = rw c.in-FilesOfCommit.is (nothing_goes g.D.Holder.bytes g.D.Holder.may_leave c.args.self.now.ledger)
 
 pub returns-in-Commit-clause-does : goal.returns-in-Commit-clause-does
 returns-in-Commit-clause-does g c = rw c.in-Commit.is (c.answer_commit.ensures.does c.args.line.now.session)
@@ -108,7 +108,7 @@ pub returns-in-Note-clause-does : goal.returns-in-Note-clause-does
 returns-in-Note-clause-does g c = rw c.in-Note.is (c.answer_note.ensures.does c.args.line.now.session)
 
 pub returns-in-Note-clause-history : goal.returns-in-Note-clause-history
-returns-in-Note-clause-history g c = rw c.in-Note.is (nothing_goes g.D.Holder.may_leave c.args.self.now.ledger)
+returns-in-Note-clause-history g c = rw c.in-Note.is (nothing_goes g.D.Holder.bytes g.D.Holder.may_leave c.args.self.now.ledger)
 
 pub returns-in-Snapshot-clause-does : goal.returns-in-Snapshot-clause-does
 returns-in-Snapshot-clause-does g c = rw c.in-Snapshot.is (c.answer_snapshot.ensures.does c.args.line.now.session)

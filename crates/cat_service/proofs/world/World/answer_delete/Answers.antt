@@ -9,13 +9,13 @@ use Rattle.cat_service.proofs.world.World.answer_delete.Goals as goal
 
 pub invariant_of-self : goal.invariant_of-self
 invariant_of-self g c =
-    world_stays g.D.Holder.bytes 0 (Said.delete c.args.id.now) c.self.inside.ledger (reply_of c.delete.result) c.delete.new.ledger c.self.inside.rights refl
+    world_stays g.D.Holder.bytes 0 (Said.delete c.args.id.now) c.self.inside.ledger (reply_of c.delete.result) c.delete.new.ledger
     c.self.invariant (c.delete.ensures.answers 0)
 
 pub returns-clause-does : goal.returns-clause-does
 returns-clause-does g c = rw (← c.self.view_is) (λ session.
     does g.D.Holder.bytes g.D.Holder.can_fail g.D.Holder.fault_count session (Said.delete c.args.id.now) c.self.inside.ledger (reply_of c.delete.result) c.delete.new.ledger
-    c.self.inside.rights c.self.inside.rights c.self.inside.filters c.self.invariant (record { spent = λ k. tt; device = λ k. tt; counted = λ k. tt; damaged = λ k. tt; reached = λ k. tt; quiet = quiet_kept g.D.Holder.fault_count c.self.inside.ledger c.delete.new.ledger c.delete.result c.delete.ensures.err; told = tt; swept = tt; rises = c.delete.ensures.rises; stays = tt; keeps = tt }) refl (c.delete.ensures.answers session) c.delete.ensures.can c.delete.ensures.policy refl
+    c.self.inside.filters c.self.invariant (record { spent = λ k. tt; device = λ k. tt; counted = λ k. tt; damaged = λ k. tt; reached = λ k. tt; quiet = quiet_kept g.D.Holder.fault_count c.self.inside.ledger c.delete.new.ledger c.delete.result c.delete.ensures.err; told = tt; swept = tt; rises = c.delete.ensures.rises; stays = tt; keeps = tt }) refl (c.delete.ensures.answers session) c.delete.ensures.can c.delete.ensures.policy refl
     (λ k. delete_wants (g.D.Holder.bytes (device_in c.self.inside.ledger)) (shape_in c.self.inside.ledger) session c.delete.result (stopped c.delete.result k) c.args.id.now c.delete.ensures.due c.delete.ensures.full))
 
 pub returns-clause-history : goal.returns-clause-history

@@ -9,13 +9,13 @@ use Rattle.cat_service.proofs.world.World.answer_delete_where.Goals as goal
 
 pub invariant_of-self : goal.invariant_of-self
 invariant_of-self g c =
-    world_stays g.D.Holder.bytes 0 (Said.delete_where c.args.text.now) c.self.inside.ledger (reply_of c.delete_where.result) c.delete_where.new.ledger c.self.inside.rights refl
+    world_stays g.D.Holder.bytes 0 (Said.delete_where c.args.text.now) c.self.inside.ledger (reply_of c.delete_where.result) c.delete_where.new.ledger
     c.self.invariant (c.delete_where.ensures.answers 0)
 
 pub returns-clause-does : goal.returns-clause-does
 returns-clause-does g c = rw (← c.self.view_is) (λ session.
     does g.D.Holder.bytes g.D.Holder.can_fail g.D.Holder.fault_count session (Said.delete_where c.args.text.now) c.self.inside.ledger (reply_of c.delete_where.result) c.delete_where.new.ledger
-    c.self.inside.rights c.self.inside.rights c.self.inside.filters c.self.invariant (record { spent = λ k. tt; device = λ k. tt; counted = λ k. tt; damaged = λ k. tt; reached = λ k. tt; quiet = quiet_kept g.D.Holder.fault_count c.self.inside.ledger c.delete_where.new.ledger c.delete_where.result c.delete_where.ensures.err; told = tt; swept = tt; rises = c.delete_where.ensures.rises; stays = tt; keeps = tt }) refl (c.delete_where.ensures.answers session) c.delete_where.ensures.can c.delete_where.ensures.policy refl
+    c.self.inside.filters c.self.invariant (record { spent = λ k. tt; device = λ k. tt; counted = λ k. tt; damaged = λ k. tt; reached = λ k. tt; quiet = quiet_kept g.D.Holder.fault_count c.self.inside.ledger c.delete_where.new.ledger c.delete_where.result c.delete_where.ensures.err; told = tt; swept = tt; rises = c.delete_where.ensures.rises; stays = tt; keeps = tt }) refl (c.delete_where.ensures.answers session) c.delete_where.ensures.can c.delete_where.ensures.policy refl
     (λ k. query_delete_wants (g.D.Holder.bytes (device_in c.self.inside.ledger)) (shape_in c.self.inside.ledger) session c.delete_where.result (stopped c.delete_where.result k) c.args.text.now c.delete_where.ensures.due))
 
 pub returns-clause-history : goal.returns-clause-history

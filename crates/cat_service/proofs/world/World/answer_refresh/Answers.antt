@@ -9,13 +9,13 @@ use Rattle.cat_service.proofs.world.World.answer_refresh.Goals as goal
 
 pub invariant_of-self : goal.invariant_of-self
 invariant_of-self g c =
-    world_stays g.D.Holder.bytes 0 Said.refresh c.self.inside.ledger (reply_of c.refresh.result) c.refresh.new.ledger c.self.inside.rights refl
+    world_stays g.D.Holder.bytes 0 Said.refresh c.self.inside.ledger (reply_of c.refresh.result) c.refresh.new.ledger
     c.self.invariant (c.refresh.ensures.answers 0)
 
 pub returns-clause-does : goal.returns-clause-does
 returns-clause-does g c = rw (← c.self.view_is) (λ session.
     does g.D.Holder.bytes g.D.Holder.can_fail g.D.Holder.fault_count session Said.refresh c.self.inside.ledger (reply_of c.refresh.result) c.refresh.new.ledger
-    c.self.inside.rights c.self.inside.rights c.self.inside.filters c.self.invariant (refresh_caused g.D.Holder.bytes g.D.Holder.can_fail g.D.Holder.fault_count c.self.inside.ledger c.self.inside.rights c.self.inside.filters c.refresh.result c.refresh.new.ledger c.self.inside.rights c.self.inside.filters c.refresh.ensures.spent c.refresh.ensures.device c.refresh.ensures.counted c.refresh.ensures.quiet c.refresh.ensures.rises c.refresh.ensures.stays) refl (c.refresh.ensures.answers session) c.refresh.ensures.can c.refresh.ensures.policy refl
+    c.self.inside.filters c.self.invariant (refresh_caused g.D.Holder.bytes g.D.Holder.can_fail g.D.Holder.fault_count c.self.inside.ledger c.self.inside.filters c.refresh.result c.refresh.new.ledger c.self.inside.filters c.refresh.ensures.spent c.refresh.ensures.device c.refresh.ensures.counted c.refresh.ensures.quiet c.refresh.ensures.rises c.refresh.ensures.stays) refl (c.refresh.ensures.answers session) c.refresh.ensures.can c.refresh.ensures.policy refl
     (λ k. refresh_wants (g.D.Holder.bytes (device_in c.self.inside.ledger)) (shape_in c.self.inside.ledger) session c.refresh.result (stopped c.refresh.result k) c.refresh.ensures.full c.refresh.ensures.due))
 
 pub returns-clause-history : goal.returns-clause-history

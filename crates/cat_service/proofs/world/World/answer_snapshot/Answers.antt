@@ -9,13 +9,13 @@ use Rattle.cat_service.proofs.world.World.answer_snapshot.Goals as goal
 
 pub invariant_of-self : goal.invariant_of-self
 invariant_of-self g c =
-    world_stays g.D.Holder.bytes 0 Said.snapshot c.self.inside.ledger (reply_of c.snapshot.result) c.snapshot.new.ledger c.self.inside.rights refl
+    world_stays g.D.Holder.bytes 0 Said.snapshot c.self.inside.ledger (reply_of c.snapshot.result) c.snapshot.new.ledger
     c.self.invariant (c.snapshot.ensures.answers 0)
 
 pub returns-clause-does : goal.returns-clause-does
 returns-clause-does g c = rw (← c.self.view_is) (λ session.
     does g.D.Holder.bytes g.D.Holder.can_fail g.D.Holder.fault_count session Said.snapshot c.self.inside.ledger (reply_of c.snapshot.result) c.snapshot.new.ledger
-    c.self.inside.rights c.self.inside.rights c.self.inside.filters c.self.invariant (record { spent = λ k. tt; device = λ k. tt; counted = λ k. tt; damaged = λ k. tt; reached = λ k. tt; quiet = quiet_kept g.D.Holder.fault_count c.self.inside.ledger c.snapshot.new.ledger c.snapshot.result c.snapshot.ensures.err; told = tt; swept = tt; rises = c.snapshot.ensures.rises; stays = tt; keeps = tt }) refl (c.snapshot.ensures.answers session) c.snapshot.ensures.can c.snapshot.ensures.policy refl
+    c.self.inside.filters c.self.invariant (record { spent = λ k. tt; device = λ k. tt; counted = λ k. tt; damaged = λ k. tt; reached = λ k. tt; quiet = quiet_kept g.D.Holder.fault_count c.self.inside.ledger c.snapshot.new.ledger c.snapshot.result c.snapshot.ensures.err; told = tt; swept = tt; rises = c.snapshot.ensures.rises; stays = tt; keeps = tt }) refl (c.snapshot.ensures.answers session) c.snapshot.ensures.can c.snapshot.ensures.policy refl
     (λ k. snap_wants (g.D.Holder.bytes (device_in c.self.inside.ledger)) (shape_in c.self.inside.ledger) session c.snapshot.result (stopped c.snapshot.result k) c.snapshot.ensures.due))
 
 pub returns-clause-history : goal.returns-clause-history

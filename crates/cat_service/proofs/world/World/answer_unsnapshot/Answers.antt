@@ -9,13 +9,13 @@ use Rattle.cat_service.proofs.world.World.answer_unsnapshot.Goals as goal
 
 pub invariant_of-self : goal.invariant_of-self
 invariant_of-self g c =
-    world_stays g.D.Holder.bytes 0 (Said.release_snapshot c.args.generation) c.self.inside.ledger (reply_of c.release_snapshot.result) c.release_snapshot.new.ledger c.self.inside.rights refl
+    world_stays g.D.Holder.bytes 0 (Said.release_snapshot c.args.generation) c.self.inside.ledger (reply_of c.release_snapshot.result) c.release_snapshot.new.ledger
     c.self.invariant (c.release_snapshot.ensures.answers 0)
 
 pub returns-clause-does : goal.returns-clause-does
 returns-clause-does g c = rw (← c.self.view_is) (λ session.
     does g.D.Holder.bytes g.D.Holder.can_fail g.D.Holder.fault_count session (Said.release_snapshot c.args.generation) c.self.inside.ledger (reply_of c.release_snapshot.result) c.release_snapshot.new.ledger
-    c.self.inside.rights c.self.inside.rights c.self.inside.filters c.self.invariant (record { spent = λ k. tt; device = λ k. tt; counted = λ k. tt; damaged = λ k. tt; reached = λ k. tt; quiet = quiet_kept g.D.Holder.fault_count c.self.inside.ledger c.release_snapshot.new.ledger c.release_snapshot.result c.release_snapshot.ensures.err; told = tt; swept = tt; rises = c.release_snapshot.ensures.rises; stays = tt; keeps = tt }) refl (c.release_snapshot.ensures.answers session) c.release_snapshot.ensures.can c.release_snapshot.ensures.policy refl
+    c.self.inside.filters c.self.invariant (record { spent = λ k. tt; device = λ k. tt; counted = λ k. tt; damaged = λ k. tt; reached = λ k. tt; quiet = quiet_kept g.D.Holder.fault_count c.self.inside.ledger c.release_snapshot.new.ledger c.release_snapshot.result c.release_snapshot.ensures.err; told = tt; swept = tt; rises = c.release_snapshot.ensures.rises; stays = tt; keeps = tt }) refl (c.release_snapshot.ensures.answers session) c.release_snapshot.ensures.can c.release_snapshot.ensures.policy refl
     (λ k. unsnap_wants (g.D.Holder.bytes (device_in c.self.inside.ledger)) (shape_in c.self.inside.ledger) session c.release_snapshot.result (stopped c.release_snapshot.result k) c.args.generation c.release_snapshot.ensures.due))
 
 pub returns-clause-history : goal.returns-clause-history

@@ -4,9 +4,8 @@ use Rattle.cat_model.specs.Lines.{IsReadable}
 use Rattle.cat_model.specs.Served.{Begins, SpellsSchema}
 use Rattle.cat_commands.specs.cat_ledger.Openings.{IsOpenedLedger}
 use Rattle.cat_commands.specs.cat_ledger.Ledgers.{device_in, shape_in}
-use Rattle.cat_commands.specs.views.Holding.{AreRights}
 use Rattle.cat_ledger_laws.specs.model.Plans.{MergePolicy}
-use Rattle.cat_service.proofs.Begun.{begins_so, begun, carried_there, formless_unasked, none_counted, opening_counts, refused_schema, schema_unasked, unopened}
+use Rattle.cat_service.proofs.Begun.{begins_so, begun, carried_there, formless_unasked, opening_counts, refused_schema, schema_unasked, unopened}
 use Rattle.cat_service.proofs.Beside.{no_sets, no_states}
 use Rattle.cat_service.proofs.world.World.open.Goals as goal
 
@@ -94,12 +93,8 @@ returns-in-Err-open-clause-counted g c =
 pub invariant_of-result : goal.invariant_of-result
 invariant_of-result g c =
     let ledger = c.in-Ok-open.ledger in
-    let opened = c.in-Ok-open.ensures.ok in
     let stands = c.in-Ok-open.ensures.stands in record {
       carried = carried_there (g.D.Holder.bytes (device_in ledger)) (shape_in ledger) stands.0 stands.2;
-      counted =
-          subst (AreRights (shape_in ledger)) (sym c.new.ensures)
-          (none_counted (g.D.Holder.bytes c.args.device) (g.D.Holder.bytes (device_in ledger)) c.in-Ok.schema (shape_in ledger) opened);
       sets = no_sets (shape_in ledger) c.in-Ok-nothing_kept.filters c.in-Ok-nothing_kept.ensures.0;
       kept = no_states (shape_in ledger) c.in-Ok-nothing_kept.states c.in-Ok-nothing_kept.ensures.1;
     }

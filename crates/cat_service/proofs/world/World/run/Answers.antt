@@ -21,7 +21,7 @@ loop-line-init g c = record {
   runs = subst (λ rs. RunsLines g.D.Holder.bytes c.args.self.now [] rs c.args.self.now) (sym c.in_ok-replies.ensures.items) (none_runs g.D.Holder.bytes c.args.self.now);
   spoken =
       subst (λ rs. RunsHistory g.D.Holder.bytes g.D.Holder.can_fail g.D.Holder.fault_count g.D.Holder.may_leave c.args.self.now [] rs c.args.self.now) (sym c.in_ok-replies.ensures.items)
-      (none_spoken g.D.Holder.may_leave g.D.Holder.bytes g.D.Holder.can_fail g.D.Holder.fault_count c.args.self.now);
+      (none_spoken g.D.Holder.bytes g.D.Holder.may_leave g.D.Holder.can_fail g.D.Holder.fault_count c.args.self.now);
 }
 
 no_line : Line
@@ -37,7 +37,7 @@ loop-line-preserved g c = record {
   policy = c.step.ensures.policy ∙ c.loop-line.invariant.policy;
   can = λ x. c.loop-line.invariant.can (c.step.ensures.can x);
   runs = rw c.in-Ok.ensures.items (one_more g.D.Holder.bytes c.args.self.now c.loop-line.self c.step.new.self c.args.lines.now c.loop-line.line-index no_line c.loop-line.replies.items c.step.result c.loop-line-test.true c.loop-line.invariant.schema c.loop-line.invariant.runs c.step.ensures.run);
-  spoken = rw c.in-Ok.ensures.items (one_spoken g.D.Holder.may_leave g.D.Holder.bytes g.D.Holder.can_fail g.D.Holder.fault_count c.args.self.now c.loop-line.self c.step.new.self c.args.lines.now c.loop-line.line-index no_line c.loop-line.replies.items c.step.result c.loop-line-test.true c.loop-line.invariant.spoken c.step.ensures.history c.step.ensures.cause);
+  spoken = rw c.in-Ok.ensures.items (one_spoken g.D.Holder.bytes g.D.Holder.may_leave g.D.Holder.can_fail g.D.Holder.fault_count c.args.self.now c.loop-line.self c.step.new.self c.args.lines.now c.loop-line.line-index no_line c.loop-line.replies.items c.step.result c.loop-line-test.true c.loop-line.invariant.spoken c.step.ensures.history c.step.ensures.cause);
 }
 
 pub returns-clause-sessions : goal.returns-clause-sessions
