@@ -1,5 +1,5 @@
 -- The states of facets that a session keeps, and its sets.
-use Rattle.std.proofs.Common.{◌≡◌, ◌∙◌, ◌⊎◌, ℕ, option_map, ◌<◌, List, [], ◌∷◌, length, get_or, All, AllPairs, Option, None, Some, sym, ap, arith, subst, inl, inr}
+use Rattle.std.proofs.Common.{◌≡◌, ◌∙◌, ◌⊎◌, ℕ, option_map, ◌<◌, List, [], ◌∷◌, length, get_or, All, AllPairs, Option, None, Some, refl, sym, ap, arith, subst, inl, inr}
 use Rattle.std.proofs.lemmas.Bool.{cases_lt}
 use Rattle.std.proofs.lemmas.List.{get_or_default}
 use Rattle.std.proofs.lemmas.List.Elements.{All-cons, All-map, All-nil}
@@ -47,15 +47,23 @@ module _ (leaves : List Leaf) (apart : AllPairs (λ a b. a.segment.number ≢ b.
   pub stay_known : (old new : List ReaderState) → RemembersOf (segments_of leaves) old new → All (KnowsIn old) (segments_of leaves) → All (KnowsIn new) (segments_of leaves)
   stay_known old new remembers known = λ i d lt. remembers (get_or (segments_of leaves) i d) (agree i d lt) (known i d lt)
 
+some_is_one : {X : Type 0} (x y : X) → Some x ≡ Some y → x ≡ y
+some_is_one x y e = cc e
+
 -- the states that are taken out know the segments of the view that the session has under the token
-pub known_before : {X : Type 0} (f : X → HeldView) (o : Option X) (rights : List HeldView) (session t : ℕ) (kept : Option (ℕ × List ReaderState))
-    (states : List ReaderState) → option_map f o ≡ right_of rights session t → AreOf session rights kept → (states ≡ []) ⊎ (kept ≡ Some (t, states))
-    → IfSome o (λ x. All (KnowsIn states) (segments_of (f x).view.leaves))
+pub known_before : {X : Type 0} (f : X → View) (o : Option X) (rights : List HeldView) (session t : ℕ) (kept : Option (ℕ × List ReaderState))
+    (states : List ReaderState) → option_map f o ≡ option_map (λ h. h.view) (right_of rights session t) → AreOf session rights kept
+    → (states ≡ []) ⊎ (kept ≡ Some (t, states)) → IfSome o (λ x. All (KnowsIn states) (segments_of (f x).leaves))
 known_before f None rights session t kept states e of either = tt
 known_before f (Some x) rights session t kept states e of (inl nothing) =
-    subst (λ (ks : List ReaderState). All (KnowsIn ks) (segments_of (f x).view.leaves)) (sym nothing) (none_kept (segments_of (f x).view.leaves))
-known_before f (Some x) rights session t kept states e of (inr is) =
-    subst (λ (k : Option (ℕ × List ReaderState)). AreOf session rights k) is of (f x) (sym e)
+    subst (λ (ks : List ReaderState). All (KnowsIn ks) (segments_of (f x).leaves)) (sym nothing) (none_kept (segments_of (f x).leaves))
+known_before f (Some x) rights session t kept states e of (inr is) = by (right_of rights session t) refl e
+  where
+    by : (r : Option HeldView) → right_of rights session t ≡ r → Some (f x) ≡ option_map (λ h. h.view) r → All (KnowsIn states) (segments_of (f x).leaves)
+    by None none e = absurd (let no : Some (f x) ≡ None = e in cc no)
+    by (Some h) some e =
+        subst (λ (v : View). All (KnowsIn states) (segments_of v.leaves)) (sym (some_is_one (f x) h.view e))
+        (subst (λ (k : Option (ℕ × List ReaderState)). AreOf session rights k) is of h some)
 
 -- so do those that are left
 pub known_after : {X : Type 0} (view : X → View) (o : Option X) (old new : List ReaderState) → IfSome o (λ x. IsView (view x))
@@ -65,12 +73,10 @@ pub known_after : {X : Type 0} (view : X → View) (o : Option X) (old new : Lis
 known_after view None old new is known remembers = tt
 known_after view (Some x) old new is known remembers = stay_known (view x).leaves is.numbers old new remembers known
 
-some_is_one : {X : Type 0} (x y : X) → Some x ≡ Some y → x ≡ y
-some_is_one x y e = cc e
-
 -- which is what they are kept for
-pub counts_after : {X : Type 0} (f : X → HeldView) (o : Option X) (r : Option HeldView) → option_map f o ≡ r → (states : List ReaderState)
-    → IfSome o (λ x. All (KnowsIn states) (segments_of (f x).view.leaves)) → (h : HeldView) → r ≡ Some h → All (KnowsIn states) (segments_of h.view.leaves)
-counts_after f None r e states known h is = absurd (let none : None ≡ Some h = e ∙ is in cc none)
+pub counts_after : {X : Type 0} (f : X → View) (o : Option X) (r : Option HeldView) → option_map f o ≡ option_map (λ h. h.view) r
+    → (states : List ReaderState) → IfSome o (λ x. All (KnowsIn states) (segments_of (f x).leaves)) → (h : HeldView) → r ≡ Some h
+    → All (KnowsIn states) (segments_of h.view.leaves)
+counts_after f None r e states known h is = absurd (let none : None ≡ Some h.view = e ∙ ap (option_map (λ h. h.view)) is in cc none)
 counts_after f (Some x) r e states known h is =
-    subst (λ (g : HeldView). All (KnowsIn states) (segments_of g.view.leaves)) (some_is_one (f x) h (e ∙ is)) known
+    subst (λ (v : View). All (KnowsIn states) (segments_of v.leaves)) (some_is_one (f x) h.view (e ∙ ap (option_map (λ h. h.view)) is)) known

@@ -19,6 +19,14 @@ use cat_threads::{Begun, Naming, Pass, Service};
 use std::alloc::Global;
 use std::io::{Read, Write};
 
+/// What a schema line opened, and the fields of its items once more.
+#[derive(Drop)]
+pub(crate) struct Opened<D: Directory + Shelf + Drop> {
+    pub(crate) begun: Begun<D>,
+    pub(crate) schema: Schema,
+    ghost fields: { (shape_in begun.ledger).schema ≡ schema },
+}
+
 /// The policy of the numbers that a schema line gives.
 fn policy_of(found: &SchemaLine) -> MergePolicy
     requires { (line text : Text) × SpellsSchema line found.now.factor found.now.least text }
@@ -45,18 +53,16 @@ fn read_first(alloc: Global, line: &[u8]) -> Result<(Schema, Schema, MergePolicy
     Ok((schema, shared, policy_of(&found)))
 }
 
-/// Opens the newest commit of the directory, or an empty catalogue where there is none, under the schema that the line gives, and
-/// hands the schema out once more. The refusals are those of a schema line.
-pub(crate) fn begin<D: Directory + Shelf + Drop>(
+/// Opens the newest commit of the directory, or an empty catalogue where there is none, under the schema that the line gives. The
+/// refusals are those of a schema line.
+fn begin<D: Directory + Shelf + Drop>(
     alloc: Global,
     device: D,
     line: &[u8],
-) -> Result<(Begun<D>, Schema), Refusal>
-    ensures { IfOk result (λ r. (shape_in r.0.ledger).schema ≡ r.1) }
-{
-    let (schema, shared, policy) = read_first(alloc, line)?;
-    match Begun::open(alloc, device, schema, policy) {
-        Ok(begun) => Ok((begun, shared)),
+) -> Result<Opened<D>, Refusal> {
+    let (read, schema, policy) = read_first(alloc, line)?;
+    match Begun::open(alloc, device, read, policy) {
+        Ok(begun) => Ok(Opened { begun, schema }),
         Err(not) => Err(not.refusal),
     }
 }
@@ -68,9 +74,7 @@ fn open_by_first<D: Directory + Shelf + Drop, I: Read, W: Write>(
     lines: &mut Lines,
     reader: &mut I,
     writer: &mut W,
-) -> Result<(Begun<D>, Schema), Fault>
-    ensures { IfOk result (λ r. (shape_in r.0.ledger).schema ≡ r.1) }
-{
+) -> Result<Opened<D>, Fault> {
     // An input of no bytes has one line, which is empty.
     if lines.next(reader) == Next::Fault {
         return Err(Fault::Read);
@@ -97,11 +101,9 @@ pub(crate) fn begin_by_first<D: Directory + Shelf + Drop, I: Read, W: Write>(
     lines: &mut Lines,
     reader: &mut I,
     writer: &mut W,
-) -> Result<(Begun<D>, Schema), Fault>
-    ensures { IfOk result (λ r. (shape_in r.0.ledger).schema ≡ r.1) }
-{
+) -> Result<Opened<D>, Fault> {
     let opened = open_by_first(alloc, device, lines, reader, writer)?;
-    match tell_opened(opened.0.count(), writer) {
+    match tell_opened(opened.begun.count(), writer) {
         Ok(()) => Ok(opened),
         Err(fault) => {
             drop(opened);

@@ -1,6 +1,6 @@
 //! Lines that read a view that a session holds. The page, the counts and the text are made without the service's lock, and no line
 //! waits for it.
-ghost use Rattle.std.specs.Prelude.{◌≡◌, ◌⊎◌, [], IfOk, IfSome, None, Some};
+ghost use Rattle.std.specs.Prelude.{◌≡◌, ◌⊎◌, [], IfOk, IfSome, None, Some, option_map};
 ghost use Rattle.cat_threads.specs.cat_commands.cat_cached_sets.filters.Known.{Knows};
 ghost use Rattle.cat_model.specs.View.{IsView, Segment};
 ghost use Rattle.cat_model.specs.Answer.{Read};
@@ -16,7 +16,7 @@ use cat_base::{Refusal, Token};
 use cat_directory::{Directory, Shelf};
 use cat_items::id_ok;
 use cat_threads::cat_commands::cat_cached_sets::filters::Filters;
-use cat_threads::cat_commands::cat_cached_sets::{Hold, Query};
+use cat_threads::cat_commands::cat_cached_sets::{Hold, Query, View};
 use cat_threads::cat_commands::cat_protocol::lines::{Facets, Find};
 use cat_threads::cat_commands::cat_protocol::replies::Answer;
 use cat_threads::cat_commands::cat_protocol::{Prepared, ReaderStates};
@@ -52,13 +52,15 @@ fn take_states(
     }
 }
 
-/// Segments of one view have different numbers, for a proof; it does nothing.
-fn numbers_differ(right: Option<&Hold>)
-    ensures { IfSome right.entry (λ h. IsView h.now.view) }
+/// The view that the right is to, whose segments have different numbers.
+fn view_of(right: Option<&Hold>) -> Option<&View>
+    ensures view { option_map (λ v. v.now) result ≡ option_map (λ h. h.now.view) right.entry }
+    ensures differ { IfSome result (λ v. IsView v.now) }
 {
-    if let Some(hold) = right {
-        let _leaves = hold.view().leaves();
-    }
+    let hold = right?;
+    let view = hold.view();
+    let _leaves = view.leaves();
+    Some(view)
 }
 
 /// What a FIND asks for beside its query.
@@ -162,7 +164,7 @@ impl<'a, D: Directory + Shelf, J: Naming, R> Front<'a, D, J, R> {
             (Read.facets facets.entry.dimension.now facets.entry.count) (reply_of result) }
     {
         let right = holdings.rights.get(holdings.number, facets.token);
-        numbers_differ(right);
+        let held = view_of(right);
         let Ok(mut filters) = take_filters(self.alloc, &mut holdings.filters) else {
             return Err(Refusal::Memory);
         };
@@ -172,7 +174,7 @@ impl<'a, D: Directory + Shelf, J: Naming, R> Front<'a, D, J, R> {
         let answer = searches::count_facets(
             self.alloc,
             self.schema,
-            right,
+            held,
             &mut filters,
             &mut states,
             facets.dimension,

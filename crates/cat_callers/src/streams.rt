@@ -9,16 +9,15 @@ use crate::asked::Asked;
 use crate::front::Front;
 use crate::input::{Lines, Next};
 use crate::numbers::rise;
-use crate::opening::{begin_by_first, service_of};
+use crate::opening::{Opened, begin_by_first, service_of};
 use crate::output::Output;
 use crate::queues::{Sending, Taking, ends};
 use crate::routes::place_of;
 use crate::threads::{Fault, Resting, refuse};
 use cat_base::{LAST_SESSION, Refusal, SessionNo};
 use cat_directory::{Directory, Shelf};
-use cat_items::Schema;
 use cat_threads::running::{merger, warmer};
-use cat_threads::{Begun, Naming, Pass, Service};
+use cat_threads::{Naming, Pass, Service};
 use std::alloc::{AllocError, Global};
 use std::io::{Read, Write};
 use std::marker::Brand;
@@ -63,23 +62,54 @@ impl Stream {
     }
 }
 
-/// So many heaps without a pass.
-fn empty_heaps<J: Naming>(alloc: Global, count: usize) -> Result<Vec<Vec<Pass<J>>>, AllocError> {
-    let mut heaps = Vec::with_capacity(alloc, count)?;
-    for _ in 0..count {
-        heaps.push(Vec::new(alloc))?;
-    }
-    Ok(heaps)
+/// What a thread that answers lines has: the passes of its sessions, a shelf, and where it takes lines.
+#[derive(Drop)]
+struct Answerer<J: Naming, S: Shelf + Drop> {
+    passes: Vec<Pass<J>>,
+    shelf: S,
+    taking: Taking,
 }
 
-/// Lays the pass on the heap at the place.
-fn lay_on<J: Naming>(
-    heaps: &mut [Vec<Pass<J>>],
+/// Adds what a thread has that reads from the shelf, without a pass, and where the reader leaves lines for it.
+fn add_answerer<J: Naming, S: Shelf + Drop, R: Wait>(
+    rt: &R,
+    alloc: Global,
+    shelf: S,
+    answerers: &mut Vec<Answerer<J, S>>,
+    sendings: &mut Vec<Sending>,
+) -> Result<(), AllocError> {
+    let (sending, taking) = ends(rt, alloc)?;
+    answerers.push(Answerer {
+        passes: Vec::new(alloc),
+        shelf,
+        taking,
+    })?;
+    sendings.push(sending)?;
+    Ok(())
+}
+
+/// Adds what a thread has for each of the shelves, and where the reader leaves lines for it.
+fn add_answerers<J: Naming, S: Shelf + Drop, R: Wait>(
+    rt: &R,
+    alloc: Global,
+    shelves: Vec<S>,
+    answerers: &mut Vec<Answerer<J, S>>,
+    sendings: &mut Vec<Sending>,
+) -> Result<(), AllocError> {
+    for shelf in shelves {
+        add_answerer(rt, alloc, shelf, answerers, sendings)?;
+    }
+    Ok(())
+}
+
+/// Gives the pass to the thread at the place.
+fn give_pass<J: Naming, S: Shelf + Drop>(
+    answerers: &mut [Answerer<J, S>],
     place: usize,
     pass: Pass<J>,
 ) -> Result<(), AllocError> {
-    if let Some(heap) = heaps.get_mut(place) {
-        heap.push(pass)?;
+    if let Some(answerer) = answerers.get_mut(place) {
+        answerer.passes.push(pass)?;
     }
     Ok(())
 }
@@ -90,26 +120,33 @@ fn next_place(place: usize, count: usize) -> usize {
     if next < count { next } else { 0 }
 }
 
-/// Lays the passes on the heaps, one on each in turn.
-fn deal<J: Naming>(passes: Vec<Pass<J>>, heaps: &mut [Vec<Pass<J>>]) -> Result<(), AllocError> {
-    let count = heaps.len();
+/// Gives the passes to the threads, one to each in turn.
+fn deal<J: Naming, S: Shelf + Drop>(
+    passes: Vec<Pass<J>>,
+    answerers: &mut [Answerer<J, S>],
+) -> Result<(), AllocError> {
+    let count = answerers.len();
     let mut place = 0;
     for pass in passes {
-        lay_on(heaps, place, pass)?;
+        give_pass(answerers, place, pass)?;
         place = next_place(place, count);
     }
     Ok(())
 }
 
-/// The passes in so many heaps, one to each in turn.
-fn dealt<J: Naming>(
+/// What each thread has: one of the shelves, and its share of the passes. Where the reader leaves lines for them is added in their
+/// order.
+fn answerers<J: Naming, S: Shelf + Drop, R: Wait>(
+    rt: &R,
     alloc: Global,
     passes: Vec<Pass<J>>,
-    count: usize,
-) -> Result<Vec<Vec<Pass<J>>>, AllocError> {
-    let mut heaps = empty_heaps(alloc, count)?;
-    deal(passes, heaps.as_mut_slice())?;
-    Ok(heaps)
+    shelves: Vec<S>,
+    sendings: &mut Vec<Sending>,
+) -> Result<Vec<Answerer<J, S>>, AllocError> {
+    let mut answerers = Vec::new(alloc);
+    add_answerers(rt, alloc, shelves, &mut answerers, sendings)?;
+    deal(passes, answerers.as_mut_slice())?;
+    Ok(answerers)
 }
 
 /// Lets go what waits for each thread.
@@ -161,19 +198,6 @@ fn hand_out<I: Read, W: Write + Drop, R: Wait>(
     unreachable!()
 }
 
-/// Where the reader leaves lines for a thread, where that takes them, and its shelf. None where memory is wanting, or a shelf.
-fn seat_for<S: Shelf + Drop, R: Wait>(
-    rt: &R,
-    alloc: Global,
-    shelves: &mut Vec<S>,
-) -> Option<(Sending, Taking, S)> {
-    let shelf = shelves.pop()?;
-    match ends(rt, alloc) {
-        Ok((sending, taking)) => Some((sending, taking, shelf)),
-        Err(AllocError) => None,
-    }
-}
-
 /// Starts a merger and a warmer, which go on until the flag isn't 0.
 fn start_workers<
     's,
@@ -211,49 +235,23 @@ fn start_answerer<
 >(
     scope: &Scope<'s, E>,
     front: &'s Front<'f, D, J, R>,
-    heap: Vec<Pass<J>>,
+    answerer: Answerer<J, S>,
     apart: usize,
-    shelf: S,
-    taking: Taking,
     output: &'s Mutex<Output<W>>,
 ) -> Result<(), Fault> {
-    let job = move || answer_stream(front, heap, apart, shelf, taking, output);
+    let Answerer {
+        passes,
+        shelf,
+        taking,
+    } = answerer;
+    let job = move || answer_stream(front, passes, apart, shelf, taking, output);
     match scope.spawn(job) {
         Ok(_answerer) => Ok(()),
         Err(_) => Err(Fault::Thread),
     }
 }
 
-/// Starts a thread for the passes of a heap, which takes one of the shelves, and keeps where lines are left for it.
-fn start_one<
-    's,
-    'f: 's,
-    E: 's,
-    J: Naming + Send + Sync + 's,
-    D: Directory + Shelf + Drop + Send + 's,
-    S: Shelf + Drop + Send + 's,
-    R: Threads + Wait + Clock + Sync + 's,
-    W: Write + Drop + Send + 's,
->(
-    scope: &Scope<'s, E>,
-    front: &'s Front<'f, D, J, R>,
-    heap: Vec<Pass<J>>,
-    apart: usize,
-    shelves: &mut Vec<S>,
-    sendings: &mut Vec<Sending>,
-    output: &'s Mutex<Output<W>>,
-) -> Result<(), Fault> {
-    let Some((sending, taking, shelf)) = seat_for(front.rt, front.alloc, shelves) else {
-        return Err(Fault::Thread);
-    };
-    start_answerer(scope, front, heap, apart, shelf, taking, output)?;
-    match sendings.push(sending) {
-        Ok(()) => Ok(()),
-        Err(_) => Err(Fault::Thread),
-    }
-}
-
-/// Starts a merger and a warmer, and a thread for each heap of passes, for which lines are left in the same order.
+/// Starts a merger and a warmer, and the threads that answer lines.
 fn start_all<
     's,
     'f: 's,
@@ -267,15 +265,13 @@ fn start_all<
     scope: &Scope<'s, E>,
     front: &'s Front<'f, D, J, R>,
     flag: &'s AtomicU64,
-    heaps: Vec<Vec<Pass<J>>>,
-    shelves: &mut Vec<S>,
-    sendings: &mut Vec<Sending>,
+    answerers: Vec<Answerer<J, S>>,
     output: &'s Mutex<Output<W>>,
 ) -> Result<(), Fault> {
     start_workers(scope, front.rt, front.service, flag)?;
-    let apart = heaps.len();
-    for heap in heaps {
-        start_one(scope, front, heap, apart, shelves, sendings, output)?;
+    let apart = answerers.len();
+    for answerer in answerers {
+        start_answerer(scope, front, answerer, apart, output)?;
     }
     Ok(())
 }
@@ -295,29 +291,20 @@ fn start_and_hand_out<
     scope: &Scope<'s, E>,
     front: &'s Front<'f, D, J, R>,
     flag: &'s AtomicU64,
-    heaps: Vec<Vec<Pass<J>>>,
-    shelves: Vec<S>,
+    answerers: Vec<Answerer<J, S>>,
+    sendings: Vec<Sending>,
     lines: &mut Lines,
     reader: &mut I,
     output: &'s Mutex<Output<W>>,
 ) -> Result<(), Fault> {
-    let mut shelves = shelves;
-    let mut sendings = Vec::new(front.alloc);
-    match start_all(
-        scope,
-        front,
-        flag,
-        heaps,
-        &mut shelves,
-        &mut sendings,
-        output,
-    ) {
+    let mut sendings = sendings;
+    match start_all(scope, front, flag, answerers, output) {
         Ok(()) => hand_out(front.rt, lines, reader, sendings.as_mut_slice(), output),
         Err(fault) => Err(fault),
     }
 }
 
-/// Starts a thread for each heap of passes, a merger and a warmer beside them, and hands out the lines.
+/// Starts the threads that answer lines, a merger and a warmer beside them, and hands out the lines of the reader.
 fn run_stream<
     J: Naming + Send + Sync,
     D: Directory + Shelf + Drop + Send,
@@ -327,8 +314,8 @@ fn run_stream<
     W: Write + Drop + Send,
 >(
     front: &Front<'_, D, J, R>,
-    heaps: Vec<Vec<Pass<J>>>,
-    shelves: Vec<S>,
+    answerers: Vec<Answerer<J, S>>,
+    sendings: Vec<Sending>,
     lines: &mut Lines,
     reader: &mut I,
     output: &Mutex<Output<W>>,
@@ -337,34 +324,39 @@ fn run_stream<
     let ended = AtomicU64::new(0);
     let flag = &ended;
     thread::scope(thread::scope_env(), rt, move |scope| -> Result<(), Fault> {
-        let handed = start_and_hand_out(scope, front, flag, heaps, shelves, lines, reader, output);
+        let handed = start_and_hand_out(
+            scope, front, flag, answerers, sendings, lines, reader, output,
+        );
         // Whatever came of it, the merger and the warmer end now.
         flag.store(1, Ordering::SeqCst);
         handed
     })
 }
 
-/// A service over what was opened, and the passes of its sessions in so many heaps. None where memory is wanting.
-fn service_and_heaps<D: Directory + Shelf + Drop, J: Naming>(
-    alloc: Global,
-    begun: Begun<D>,
-    numbers: &[SessionNo],
-    heaps: usize,
-) -> Option<(Service<D, J>, Vec<Vec<Pass<J>>>)>
-    requires names { (begun.table ≡ J.table) × (J.from ≡ ground_of (shape_in begun.ledger)) × (J.sessions ≡ seated_by [] numbers.now) }
-    requires different { all_different numbers.now ≡ true }
-{
-    let (service, passes) = service_of::<D, J>(alloc, begun, numbers)?;
-    match dealt(alloc, passes, heaps) {
-        Ok(heaps) => Some((service, heaps)),
-        Err(AllocError) => {
-            drop(service);
-            None
-        }
+/// Runs the service over the stream: the passes go to as many threads as there are shelves.
+fn run_passes<
+    J: Naming + Send + Sync,
+    D: Directory + Shelf + Drop + Send,
+    S: Shelf + Drop + Send,
+    R: Threads + Wait + Clock + Sync,
+    I: Read,
+    W: Write + Drop + Send,
+>(
+    front: &Front<'_, D, J, R>,
+    passes: Vec<Pass<J>>,
+    shelves: Vec<S>,
+    lines: &mut Lines,
+    reader: &mut I,
+    output: &Mutex<Output<W>>,
+) -> Result<(), Fault> {
+    let mut sendings = Vec::new(front.alloc);
+    match answerers(front.rt, front.alloc, passes, shelves, &mut sendings) {
+        Ok(answerers) => run_stream(front, answerers, sendings, lines, reader, output),
+        Err(AllocError) => Err(Fault::Thread),
     }
 }
 
-/// Runs the service, whose sessions have these numbers, over the stream.
+/// Runs a service over what was opened, over the stream.
 fn serve_opened<
     J: Naming + Send + Sync,
     D: Directory + Shelf + Drop + Send,
@@ -375,66 +367,29 @@ fn serve_opened<
 >(
     rt: &R,
     alloc: Global,
-    begun: Begun<D>,
-    schema: &Schema,
-    asked: &Asked,
-    numbers: &[SessionNo],
-    shelves: Vec<S>,
-    lines: &mut Lines,
-    reader: &mut I,
-    output: &Mutex<Output<W>>,
-) -> Result<(), Fault>
-    requires names { (begun.table ≡ J.table) × (J.from ≡ ground_of (shape_in begun.ledger)) × (J.sessions ≡ seated_by [] numbers.now) }
-    requires different { all_different numbers.now ≡ true }
-    requires fields { schema.now ≡ J.from.start.schema }
-{
-    let Some((service, heaps)) = service_and_heaps::<D, J>(alloc, begun, numbers, shelves.len())
-    else {
-        return Err(Fault::Thread);
-    };
-    let run = run_stream(
-        &Front::new(rt, alloc, &service, schema, asked),
-        heaps,
-        shelves,
-        lines,
-        reader,
-        output,
-    );
-    drop(service);
-    run
-}
-
-/// Runs a service over what was opened, over the stream.
-fn serve_begun<
-    D: Directory + Shelf + Drop + Send,
-    S: Shelf + Drop + Send,
-    R: Threads + Wait + Clock + Sync,
-    I: Read,
-    W: Write + Drop + Send,
->(
-    rt: &R,
-    alloc: Global,
-    begun: Begun<D>,
-    schema: &Schema,
+    opened: Opened<D>,
     shelves: Vec<S>,
     stream: &mut Stream,
     reader: &mut I,
     output: &Mutex<Output<W>>,
 ) -> Result<(), Fault>
-    requires fields { (shape_in begun.ledger).schema ≡ schema.now }
+    requires { (opened.begun.table ≡ J.table) × (J.from ≡ ground_of (shape_in opened.begun.ledger)) × (J.sessions ≡ seated_by [] stream.old.numbers.items) }
 {
-    serve_opened::<Brand, D, S, R, I, W>(
-        rt,
-        alloc,
-        begun,
-        schema,
-        &stream.asked,
-        stream.numbers.as_slice(),
+    let Opened { begun, schema } = opened;
+    let numbers = stream.numbers.as_slice();
+    let Some((service, passes)) = service_of::<D, J>(alloc, begun, numbers) else {
+        return Err(Fault::Thread);
+    };
+    let run = run_passes(
+        &Front::new(rt, alloc, &service, &schema, &stream.asked),
+        passes,
         shelves,
         &mut stream.lines,
         reader,
         output,
-    )
+    );
+    drop(service);
+    run
 }
 
 /// What came of a stream that was served so: where it came to its end, a write may have failed.
@@ -458,43 +413,17 @@ fn serve_lines<
 >(
     rt: &R,
     alloc: Global,
-    begun: Begun<D>,
-    schema: &Schema,
-    shelves: Vec<S>,
-    stream: &mut Stream,
-    reader: &mut I,
-    writer: W,
-) -> Result<(), Fault>
-    requires fields { (shape_in begun.ledger).schema ≡ schema.now }
-{
-    let output = Mutex::new(Output::new(writer));
-    let served = serve_begun(rt, alloc, begun, schema, shelves, stream, reader, &output);
-    outcome_of(served, output)
-}
-
-/// Answers all lines, in the memory that was taken for them.
-fn serve_in<
-    D: Directory + Shelf + Drop + Send,
-    S: Shelf + Drop + Send,
-    R: Threads + Wait + Clock + Sync,
-    I: Read,
-    W: Write + Drop + Send,
->(
-    rt: &R,
-    alloc: Global,
-    device: D,
+    opened: Opened<D>,
     shelves: Vec<S>,
     stream: &mut Stream,
     reader: &mut I,
     writer: W,
 ) -> Result<(), Fault> {
-    let mut writer = writer;
-    match begin_by_first(alloc, device, &mut stream.lines, reader, &mut writer) {
-        Ok((begun, schema)) => serve_lines(
-            rt, alloc, begun, &schema, shelves, stream, reader, writer,
-        ),
-        Err(fault) => Err(fault),
-    }
+    let output = Mutex::new(Output::new(writer));
+    let served = serve_opened::<Brand, D, S, R, I, W>(
+        rt, alloc, opened, shelves, stream, reader, &output,
+    );
+    outcome_of(served, output)
 }
 
 /// Answers each line of the reader as it comes: the first opens the newest commit of the directory, or an empty catalogue where
@@ -518,11 +447,9 @@ pub fn serve_stream<
     writer: W,
 ) -> Result<(), Fault> {
     let mut writer = writer;
-    match Stream::new(alloc) {
-        Ok(stream) => {
-            let mut stream = stream;
-            serve_in(rt, alloc, device, shelves, &mut stream, reader, writer)
-        }
-        Err(AllocError) => Err(refuse(Refusal::Memory, &mut writer)),
-    }
+    let Ok(mut stream) = Stream::new(alloc) else {
+        return Err(refuse(Refusal::Memory, &mut writer));
+    };
+    let opened = begin_by_first(alloc, device, &mut stream.lines, reader, &mut writer)?;
+    serve_lines(rt, alloc, opened, shelves, &mut stream, reader, writer)
 }

@@ -6,6 +6,7 @@ ghost use Rattle.cat_callers.specs.Sessions.{AreRightsTo};
 use crate::answerers::line_of;
 use crate::asked::Asked;
 use crate::front::Front;
+use crate::heard::Spoken;
 use crate::holdings::Holdings;
 use cat_directory::{Directory, Shelf};
 use cat_items::Schema;
@@ -17,7 +18,7 @@ use cat_threads::{Naming, Pass, Service};
 use std::alloc::Global;
 use std::io::Write;
 use std::marker::PhantomData;
-use std::sync::{Mutex, Wait};
+use std::sync::Wait;
 
 /// What a session is told.
 #[derive(Drop)]
@@ -27,15 +28,24 @@ pub(crate) struct Told {
     pub(crate) whole: bool,
 }
 
-/// What a session says, and where it keeps what it is told.
+impl Told {
+    /// Nothing is told yet.
+    pub(crate) fn nothing(alloc: Global) -> Told {
+        Told {
+            text: Vec::new(alloc),
+            whole: false,
+        }
+    }
+}
+
+/// A session on its way into its thread: what it says, and what it needs to be answered.
 #[derive(Drop)]
 pub(crate) struct Talk<'a, J: Naming, S: Shelf + Drop> {
     pub(crate) alloc: Global,
     pub(crate) schema: &'a Schema,
     pub(crate) asked: &'a Asked,
-    pub(crate) said: &'a [u8],
+    pub(crate) spoken: &'a Spoken,
     pub(crate) shelf: S,
-    pub(crate) told: &'a Mutex<Told>,
     pub(crate) of: PhantomData<J>,
     ghost fields: { schema.now ≡ J.from.start.schema },
 }
@@ -45,9 +55,8 @@ impl<'a, J: Naming, S: Shelf + Drop> Talk<'a, J, S> {
         alloc: Global,
         schema: &'a Schema,
         asked: &'a Asked,
-        said: &'a [u8],
+        spoken: &'a Spoken,
         shelf: S,
-        told: &'a Mutex<Told>,
     ) -> Talk<'a, J, S>
         requires { schema.now ≡ J.from.start.schema }
     {
@@ -55,9 +64,8 @@ impl<'a, J: Naming, S: Shelf + Drop> Talk<'a, J, S> {
             alloc,
             schema,
             asked,
-            said,
+            spoken,
             shelf,
-            told,
             of: PhantomData,
         }
     }
@@ -138,14 +146,13 @@ impl<'a, D: Directory + Shelf, J: Naming, S: Shelf + Drop, R: Wait> Caller<D, J,
             alloc,
             schema,
             asked,
-            said,
+            spoken,
             mut shelf,
-            told,
             of: _,
         } = self;
         let front = Front::new(rt, alloc, service, schema, asked);
         let mut text = Vec::new(alloc);
-        let whole = front.talk(me, &mut shelf, said, &mut text);
-        *told.lock(rt) = Told { text, whole };
+        let whole = front.talk(me, &mut shelf, spoken.lines.as_slice(), &mut text);
+        *spoken.told.lock(rt) = Told { text, whole };
     }
 }

@@ -8,7 +8,7 @@ use crate::asked::Asked;
 use crate::heard::{Heard, MAX_THREADS, Spoken, hear_all};
 use crate::input::Lines;
 use crate::numbers::rise;
-use crate::opening::{begin_by_first, service_of};
+use crate::opening::{Opened, begin_by_first, service_of};
 use crate::talking::{Talk, Told};
 use cat_base::{Refusal, SessionNo};
 use cat_directory::{Directory, Shelf};
@@ -17,11 +17,11 @@ use cat_threads::cat_commands::cat_protocol::sending::{
     WriteFault, flush, send, send_number, send_refused, send_unreadable,
 };
 use cat_threads::running::{Gate, run_threads};
-use cat_threads::{Begun, Naming, Pass, Service};
+use cat_threads::{Naming, Pass, Service};
 use std::alloc::{AllocError, Global};
 use std::io::{Read, Write};
 use std::marker::Brand;
-use std::sync::{Mutex, Wait};
+use std::sync::Wait;
 use std::thread;
 use std::thread::Threads;
 use std::time::{Clock, Duration};
@@ -114,59 +114,52 @@ fn different_numbers(alloc: Global, spoken: &[Spoken]) -> Result<Vec<SessionNo>,
     }
 }
 
-/// Nothing is told yet, to as many sessions.
-fn nothing_told(alloc: Global, count: usize) -> Result<Vec<Mutex<Told>>, AllocError> {
-    let mut told = Vec::with_capacity(alloc, count)?;
-    for _ in 0..count {
-        let text = Vec::new(alloc);
-        told.push(Mutex::new(Told { text, whole: false }))?;
-    }
-    Ok(told)
-}
-
-/// The sessions that run, and where each session is told what it is told.
+/// Who runs, and what they share.
 #[derive(Drop)]
-struct Seats {
-    /// The numbers of those that run.
+struct Running {
+    /// The numbers of the sessions that run.
     numbers: Vec<SessionNo>,
-    /// For each session, also for those that don't run.
-    told: Vec<Mutex<Told>>,
+    /// Which queries they asked.
+    asked: Asked,
 }
 
-impl Seats {
-    /// Those of the sessions, nothing told yet.
-    fn of(alloc: Global, spoken: &[Spoken]) -> Result<Seats, Fault>
-        ensures { IfOk result (λ s. all_different s.numbers.items ≡ true) }
+impl Running {
+    /// Those of the sessions that run.
+    fn of(alloc: Global, spoken: &[Spoken]) -> Result<Running, Fault>
+        ensures { IfOk result (λ r. all_different r.numbers.items ≡ true) }
     {
         let numbers = different_numbers(alloc, spoken)?;
-        match nothing_told(alloc, spoken.len()) {
-            Ok(told) => Ok(Seats { numbers, told }),
+        match Asked::new(alloc) {
+            Ok(asked) => Ok(Running { numbers, asked }),
             Err(AllocError) => Err(Fault::Thread),
         }
     }
 }
 
-/// What is heard behind the first line: all lines, and the seats of those who say them.
-fn hear<I: Read>(alloc: Global, lines: &mut Lines, reader: &mut I) -> Result<(Heard, Seats), Fault>
+/// What is heard behind the first line: all lines, and which of those who say them run.
+fn hear<I: Read>(
+    alloc: Global,
+    lines: &mut Lines,
+    reader: &mut I,
+) -> Result<(Heard, Running), Fault>
     ensures { IfOk result (λ r. all_different r.1.numbers.items ≡ true) }
 {
     let Some(heard) = hear_all(alloc, lines, reader) else {
         return Err(Fault::Read);
     };
-    match Seats::of(alloc, heard.spoken.as_slice()) {
-        Ok(seats) => Ok((heard, seats)),
+    match Running::of(alloc, heard.spoken.as_slice()) {
+        Ok(running) => Ok((heard, running)),
         Err(fault) => Err(fault),
     }
 }
 
-/// Seats the session of the pass, with what it says, one of the shelves and where it is told. No, where one of these is wanting.
+/// Seats the session of the pass, with what it says and one of the shelves. No, where a shelf or memory is wanting.
 fn seat<'a, J: Naming, S: Shelf + Drop>(
     alloc: Global,
     schema: &'a Schema,
     asked: &'a Asked,
     pass: Pass<J>,
     spoken: &'a Spoken,
-    told: &'a Mutex<Told>,
     shelves: &mut Vec<S>,
     sessions: &mut Vec<(Pass<J>, Talk<'a, J, S>)>,
 ) -> bool
@@ -175,11 +168,8 @@ fn seat<'a, J: Naming, S: Shelf + Drop>(
     let Some(shelf) = shelves.pop() else {
         return false;
     };
-    let talk = Talk::new(alloc, schema, asked, spoken.lines.as_slice(), shelf, told);
-    match sessions.push((pass, talk)) {
-        Ok(()) => true,
-        Err(_) => false,
-    }
+    let talk = Talk::new(alloc, schema, asked, spoken, shelf);
+    sessions.push((pass, talk)).is_ok()
 }
 
 /// Seats the sessions of the passes, as they stand. No, where a seat or memory is wanting.
@@ -189,32 +179,30 @@ fn seat_all<'a, J: Naming, S: Shelf + Drop>(
     asked: &'a Asked,
     passes: Vec<Pass<J>>,
     spoken: &'a [Spoken],
-    told: &'a [Mutex<Told>],
     shelves: &mut Vec<S>,
     sessions: &mut Vec<(Pass<J>, Talk<'a, J, S>)>,
 ) -> bool
     requires { schema.now ≡ J.from.start.schema }
 {
-    let mut seats = spoken.iter().zip(told.iter()).filter(|seat| seat.0.runs);
+    let mut running = spoken.iter().filter(|spoken| spoken.runs);
     for pass in passes {
-        let Some((spoken, told)) = seats.next() else {
+        let Some(spoken) = running.next() else {
             return false;
         };
-        if !seat(alloc, schema, asked, pass, spoken, told, shelves, sessions) {
+        if !seat(alloc, schema, asked, pass, spoken, shelves, sessions) {
             return false;
         }
     }
     true
 }
 
-/// What the sessions of the passes say, each with a shelf and with where it is told. None where there are too few of these.
+/// What the sessions of the passes say, each with a shelf. None where there are too few of these.
 fn seated<'a, J: Naming, S: Shelf + Drop>(
     alloc: Global,
     schema: &'a Schema,
     asked: &'a Asked,
     passes: Vec<Pass<J>>,
     spoken: &'a [Spoken],
-    told: &'a [Mutex<Told>],
     shelves: Vec<S>,
 ) -> Option<Vec<(Pass<J>, Talk<'a, J, S>)>>
     requires { schema.now ≡ J.from.start.schema }
@@ -227,7 +215,6 @@ fn seated<'a, J: Naming, S: Shelf + Drop>(
         asked,
         passes,
         spoken,
-        told,
         &mut shelves,
         &mut sessions,
     ) {
@@ -249,16 +236,13 @@ fn run_seated<
     service: &Service<D, J>,
     passes: Vec<Pass<J>>,
     schema: &Schema,
+    asked: &Asked,
     spoken: &[Spoken],
     shelves: Vec<S>,
-    told: &[Mutex<Told>],
 ) -> Result<(), Fault>
     requires { schema.now ≡ J.from.start.schema }
 {
-    let Ok(asked) = Asked::new(alloc) else {
-        return Err(Fault::Thread);
-    };
-    let Some(sessions) = seated(alloc, schema, &asked, passes, spoken, told, shelves) else {
+    let Some(sessions) = seated(alloc, schema, asked, passes, spoken, shelves) else {
         return Err(Fault::Thread);
     };
     let merging = Resting::new(rt);
@@ -268,7 +252,7 @@ fn run_seated<
     }
 }
 
-/// Runs the sessions, whose numbers these are. What each is told stands at its place afterwards.
+/// Runs the sessions whose lines were heard. What each is told stands beside its lines afterwards.
 fn run_sessions<
     J: Naming + Send + Sync,
     D: Directory + Shelf + Drop + Send,
@@ -277,21 +261,29 @@ fn run_sessions<
 >(
     rt: &R,
     alloc: Global,
-    begun: Begun<D>,
-    schema: &Schema,
-    numbers: &[SessionNo],
+    opened: Opened<D>,
     spoken: &[Spoken],
+    running: &Running,
     shelves: Vec<S>,
-    told: &[Mutex<Told>],
 ) -> Result<(), Fault>
-    requires names { (begun.table ≡ J.table) × (J.from ≡ ground_of (shape_in begun.ledger)) × (J.sessions ≡ seated_by [] numbers.now) }
-    requires different { all_different numbers.now ≡ true }
-    requires fields { schema.now ≡ J.from.start.schema }
+    requires names { (opened.begun.table ≡ J.table) × (J.from ≡ ground_of (shape_in opened.begun.ledger)) × (J.sessions ≡ seated_by [] running.now.numbers.items) }
+    requires different { all_different running.now.numbers.items ≡ true }
 {
+    let Opened { begun, schema } = opened;
+    let numbers = running.numbers.as_slice();
     let Some((service, passes)) = service_of::<D, J>(alloc, begun, numbers) else {
         return Err(Fault::Thread);
     };
-    let run = run_seated(rt, alloc, &service, passes, schema, spoken, shelves, told);
+    let run = run_seated(
+        rt,
+        alloc,
+        &service,
+        passes,
+        &schema,
+        &running.asked,
+        spoken,
+        shelves,
+    );
     drop(service);
     run
 }
@@ -311,82 +303,37 @@ fn send_no_command<W: Write>(spoken: &Spoken, to: &mut W) -> Result<(), WriteFau
 }
 
 /// Writes what a session was told.
-fn send_one<W: Write>(
-    spoken: &Spoken,
-    told: &mut Mutex<Told>,
-    to: &mut W,
-) -> Result<(), WriteFault> {
+fn send_one<W: Write>(spoken: &mut Spoken, to: &mut W) -> Result<(), WriteFault> {
     if spoken.runs {
-        send_whole(told.get_mut(), to)
+        send_whole(spoken.told.get_mut(), to)
     } else {
         send_no_command(spoken, to)
     }
 }
 
 /// Writes what each session was told, and that those which didn't run have no command.
-fn send_told<W: Write>(
-    spoken: &[Spoken],
-    told: &mut [Mutex<Told>],
-    to: &mut W,
-) -> Result<(), WriteFault> {
-    let mut seats = spoken.iter();
-    for told in told {
-        let Some(spoken) = seats.next() else {
-            return Ok(());
-        };
-        send_one(spoken, told, to)?;
+fn send_told<W: Write>(spoken: &mut [Spoken], to: &mut W) -> Result<(), WriteFault> {
+    for each in spoken {
+        send_one(each, to)?;
     }
     Ok(())
 }
 
 /// Writes the replies: to the lines that can't be read, and then each session's, by rising number.
-fn send_replies<W: Write>(
-    heard: &Heard,
-    told: &mut [Mutex<Told>],
-    to: &mut W,
-) -> Result<(), WriteFault> {
+fn send_replies<W: Write>(heard: &mut Heard, to: &mut W) -> Result<(), WriteFault> {
     for _ in 0..heard.unreadable {
         send_unreadable(to)?;
     }
-    send_told(heard.spoken.as_slice(), told, to)?;
+    send_told(heard.spoken.as_mut_slice(), to)?;
     flush(to)
 }
 
 /// Writes the replies, and says whether that failed.
-fn tell_all<W: Write>(heard: &Heard, told: &mut [Mutex<Told>], to: &mut W) -> Result<(), Fault> {
-    match send_replies(heard, told, to) {
+fn tell_all<W: Write>(heard: &mut Heard, to: &mut W) -> Result<(), Fault> {
+    match send_replies(heard, to) {
         Ok(()) => Ok(()),
         Err(WriteFault) => Err(Fault::Write),
     }
-}
-
-/// Runs the sessions whose lines were heard, each told in its seat.
-fn run_heard<
-    D: Directory + Shelf + Drop + Send,
-    S: Shelf + Drop + Send,
-    R: Threads + Wait + Clock + Sync,
->(
-    rt: &R,
-    alloc: Global,
-    begun: Begun<D>,
-    schema: &Schema,
-    heard: &Heard,
-    seats: &Seats,
-    shelves: Vec<S>,
-) -> Result<(), Fault>
-    requires fields { (shape_in begun.ledger).schema ≡ schema.now }
-    requires different { all_different seats.now.numbers.items ≡ true }
-{
-    run_sessions::<Brand, D, S, R>(
-        rt,
-        alloc,
-        begun,
-        schema,
-        seats.numbers.as_slice(),
-        heard.spoken.as_slice(),
-        shelves,
-        seats.told.as_slice(),
-    )
 }
 
 /// Runs the sessions whose lines were heard, and writes what they are told.
@@ -398,18 +345,17 @@ fn run_and_tell<
 >(
     rt: &R,
     alloc: Global,
-    begun: Begun<D>,
-    schema: &Schema,
-    heard: &Heard,
-    seats: &mut Seats,
+    opened: Opened<D>,
+    heard: &mut Heard,
+    running: &Running,
     shelves: Vec<S>,
     writer: &mut W,
 ) -> Result<(), Fault>
-    requires fields { (shape_in begun.ledger).schema ≡ schema.now }
-    requires different { all_different seats.old.numbers.items ≡ true }
+    requires { all_different running.now.numbers.items ≡ true }
 {
-    run_heard(rt, alloc, begun, schema, heard, seats, shelves)?;
-    tell_all(heard, seats.told.as_mut_slice(), writer)
+    let spoken = heard.spoken.as_slice();
+    run_sessions::<Brand, D, S, R>(rt, alloc, opened, spoken, running, shelves)?;
+    tell_all(heard, writer)
 }
 
 /// Hears the lines behind the first, runs all sessions, and writes what they are told.
@@ -422,24 +368,19 @@ fn answer_all<
 >(
     rt: &R,
     alloc: Global,
-    begun: Begun<D>,
-    schema: &Schema,
+    opened: Opened<D>,
     shelves: Vec<S>,
     lines: &mut Lines,
     reader: &mut I,
     writer: &mut W,
-) -> Result<(), Fault>
-    requires fields { (shape_in begun.ledger).schema ≡ schema.now }
-{
+) -> Result<(), Fault> {
     match hear(alloc, lines, reader) {
-        Ok((heard, seats)) => {
-            let mut seats = seats;
-            run_and_tell(
-                rt, alloc, begun, schema, &heard, &mut seats, shelves, writer,
-            )
+        Ok((heard, running)) => {
+            let mut heard = heard;
+            run_and_tell(rt, alloc, opened, &mut heard, &running, shelves, writer)
         }
         Err(fault) => {
-            drop(begun);
+            drop(opened);
             Err(fault)
         }
     }
@@ -451,30 +392,6 @@ pub(crate) fn refuse<W: Write>(refusal: Refusal, to: &mut W) -> Fault {
         Fault::Write
     } else {
         Fault::Schema
-    }
-}
-
-/// Answers all lines, in the memory that was taken for them.
-fn serve_lines<
-    D: Directory + Shelf + Drop + Send,
-    S: Shelf + Drop + Send,
-    R: Threads + Wait + Clock + Sync,
-    I: Read,
-    W: Write,
->(
-    rt: &R,
-    alloc: Global,
-    device: D,
-    shelves: Vec<S>,
-    lines: &mut Lines,
-    reader: &mut I,
-    writer: &mut W,
-) -> Result<(), Fault> {
-    match begin_by_first(alloc, device, lines, reader, writer) {
-        Ok((begun, schema)) => answer_all(
-            rt, alloc, begun, &schema, shelves, lines, reader, writer,
-        ),
-        Err(fault) => Err(fault),
     }
 }
 
@@ -499,11 +416,9 @@ pub fn serve_threads<
     reader: &mut I,
     writer: &mut W,
 ) -> Result<(), Fault> {
-    match Lines::new(alloc) {
-        Ok(lines) => {
-            let mut lines = lines;
-            serve_lines(rt, alloc, device, shelves, &mut lines, reader, writer)
-        }
-        Err(AllocError) => Err(refuse(Refusal::Memory, writer)),
-    }
+    let Ok(mut lines) = Lines::new(alloc) else {
+        return Err(refuse(Refusal::Memory, writer));
+    };
+    let opened = begin_by_first(alloc, device, &mut lines, reader, writer)?;
+    answer_all(rt, alloc, opened, shelves, &mut lines, reader, writer)
 }
