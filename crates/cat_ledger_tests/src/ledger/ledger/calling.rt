@@ -1,7 +1,7 @@
 //! Calls of a ledger, and what each has to be answered.
 use crate::ledger::ledger::maintaining::{merge, sweep};
 use crate::ledger::ledger::telling::Told;
-use crate::ledger::ledger::viewing::{acquire, prune, refresh, release, source};
+use crate::ledger::ledger::viewing::{acquire, hold, let_go, prune, refresh, release, source};
 use crate::ledger::ledger::writing::{commit, delete, put, put_under};
 use cat_base::{Refusal, SessionNo, Token};
 use cat_directory::{Directory, Shelf};
@@ -28,6 +28,9 @@ pub(crate) enum Call<'a> {
     Acquire(SessionNo, Option<Token>),
     /// `release` by the first session of a right that the second was granted.
     Release(SessionNo, SessionNo, Token),
+    Hold(SessionNo, Option<Token>),
+    /// `let_go`, and whether the session had the right.
+    LetGo(SessionNo, Token),
     Prune(u64),
     /// `source` of the id in the view that the session holds, and the text that is wanted, if any.
     Source(SessionNo, Token, &'a str, Option<&'a str>),
@@ -51,10 +54,10 @@ pub(crate) fn answer<D: Directory + Shelf>(
         Call::Refresh => refresh(ledger),
         Call::Acquire(session, token) => acquire(ledger, rights, session, token),
         Call::Release(session, owner, token) => release(ledger, rights, (session, owner), token),
+        Call::Hold(session, token) => hold(ledger, session, token),
+        Call::LetGo(session, token) => let_go(ledger, session, token),
         Call::Prune(count) => prune(ledger, count),
-        Call::Source(session, token, id, want) => {
-            source(ledger, rights, (session, token), id, want)
-        }
+        Call::Source(session, token, id, want) => source(ledger, (session, token), id, want),
         Call::Commit(text) => commit(ledger, text),
         Call::Merge => merge(ledger),
         Call::Sweep => sweep(ledger),

@@ -8,7 +8,7 @@ use cat_directory::MemoryDirectory;
 use std::alloc::Global;
 use std::test::Fail;
 
-/// The right is another session's, the item is of other fields, and the text is of two lines.
+/// The right is another session's, the item is of other fields, the text is of two lines, and the token isn't held.
 const ROWS: &[Row<'static>] = &[
     (Call::Acquire(1, None), Told::New(0)),
     (
@@ -30,6 +30,17 @@ const ROWS: &[Row<'static>] = &[
         Call::Source(2, 1, "a", Some(r#"{"id":"a","name":"apple","price":1}"#)),
         Told::Is(true),
     ),
+    (Call::Source(3, 1, "a", None), Told::No(Refusal::NotHeld)),
+    (Call::Hold(3, Some(7)), Told::No(Refusal::Gone)),
+    (Call::Hold(3, None), Told::Number(1)),
+    (Call::Hold(3, Some(1)), Told::Number(1)),
+    (
+        Call::Source(3, 1, "a", Some(r#"{"id":"a","name":"apple","price":1}"#)),
+        Told::Is(true),
+    ),
+    (Call::LetGo(3, 1), Told::Is(true)),
+    (Call::LetGo(3, 1), Told::Is(false)),
+    (Call::Source(3, 1, "a", None), Told::No(Refusal::NotHeld)),
 ];
 
 /// Whether that is so of a ledger of a directory without a file.

@@ -69,6 +69,24 @@ pub(crate) fn release<D: Directory + Shelf>(
     }
 }
 
+/// Lets the session hold the view of the token, or of the newest one, by the ledger alone.
+pub(crate) fn hold<D: Directory + Shelf>(
+    ledger: &mut Ledger<D>,
+    session: SessionNo,
+    token: Option<Token>,
+) -> Told {
+    number(ledger.hold(session, token))
+}
+
+/// Ends the session's hold of the view of the token.
+pub(crate) fn let_go<D: Directory + Shelf>(
+    ledger: &mut Ledger<D>,
+    session: SessionNo,
+    token: Token,
+) -> Told {
+    Told::Is(ledger.let_go(session, token))
+}
+
 /// Takes views out.
 pub(crate) fn prune<D: Directory + Shelf>(ledger: &mut Ledger<D>, count: u64) -> Told {
     match ledger.prune(count) {
@@ -89,16 +107,12 @@ fn is_text(found: &Option<Vec<u8>>, want: Option<&str>) -> bool {
 /// Whether the text of the item in the view that the session holds is the wanted one.
 pub(crate) fn source<D: Directory + Shelf>(
     ledger: &mut Ledger<D>,
-    rights: &Rights,
     right: (SessionNo, Token),
     id: &str,
     want: Option<&str>,
 ) -> Told {
     let (session, token) = right;
-    let Some(hold) = rights.get(session, token) else {
-        return Told::No(Refusal::NotHeld);
-    };
-    match ledger.source(hold, id) {
+    match ledger.source(session, token, id) {
         Ok(found) => Told::Is(is_text(&found, want)),
         Err(refusal) => Told::No(refusal),
     }
