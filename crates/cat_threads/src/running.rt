@@ -2,7 +2,7 @@
 ghost use Rattle.std.specs.Prelude.{◌≡◌, IfOk, map};
 ghost use Rattle.cat_threads.specs.running.Sessions.{sessions_back, sessions_of};
 
-use crate::service::{Chore, Naming, Pass, Service};
+use crate::service::{Chore, Naming, Pass, Progress, Service};
 use cat_base::SessionNo;
 use cat_directory::{Directory, Shelf};
 use std::alloc::Global;
@@ -58,6 +58,63 @@ impl<J: Naming> Promise<Pass<J>> for Of {
     ghost kept_by = { λ p r. r.session ≡ p.0 };
 }
 
+/// What a worker does.
+#[derive(Clone, Copy)]
+enum Work {
+    /// It merges.
+    Merge,
+    /// It makes cached sets.
+    Warm,
+}
+
+/// Does a chore, once the gate was told that the lock is held.
+fn do_chore<D: Directory + Shelf, J: Naming, R: Wait, G: Gate>(
+    rt: &R,
+    service: &Service<D, J>,
+    gate: &mut G,
+    chore: Chore,
+) -> Progress {
+    let outcome = service.turn(rt, gate, chore);
+    outcome.worker_progress()
+}
+
+/// A step of the work: a merge that is done is followed by a sweep.
+fn step<D: Directory + Shelf, J: Naming, R: Wait, G: Gate>(
+    rt: &R,
+    service: &Service<D, J>,
+    gate: &mut G,
+    work: Work,
+) -> Progress {
+    match work {
+        Work::Warm => do_chore(rt, service, gate, Chore::Warm),
+        Work::Merge => {
+            let merged = do_chore(rt, service, gate, Chore::Merge);
+            if matches!(merged, Progress::Merged) {
+                let _swept = do_chore(rt, service, gate, Chore::Sweep);
+            }
+            merged
+        }
+    }
+}
+
+/// Works step by step, until the gate says no or the flag isn't 0.
+fn run_worker<D: Directory + Shelf, J: Naming, R: Wait, G: Gate>(
+    rt: &R,
+    service: &Service<D, J>,
+    ended: &AtomicU64,
+    gate: &mut G,
+    work: Work,
+) {
+    for _ in rt.forever() {
+        if ended.load(Ordering::SeqCst) != 0 || !gate.go_on() {
+            return;
+        }
+        if matches!(step(rt, service, gate, work), Progress::Idle) {
+            gate.idle();
+        }
+    }
+}
+
 /// Merges step by step, and lets the files go that nobody needs once a merge is done, until the gate says no or the flag isn't
 /// 0. (Lucene: `ConcurrentMergeScheduler`, whose threads run each merge whole.)
 pub fn merger<D: Directory + Shelf, J: Naming, R: Wait, G: Gate>(
@@ -66,18 +123,7 @@ pub fn merger<D: Directory + Shelf, J: Naming, R: Wait, G: Gate>(
     ended: &AtomicU64,
     mut gate: G,
 ) {
-    for _ in rt.forever() {
-        if ended.load(Ordering::SeqCst) != 0 || !gate.go_on() {
-            return;
-        }
-        let outcome = service.turn(rt, &mut gate, Chore::Merge);
-        if outcome.is_merged() {
-            let _swept = service.turn(rt, &mut gate, Chore::Sweep);
-        }
-        if outcome.is_idle() {
-            gate.idle();
-        }
-    }
+    run_worker(rt, service, ended, &mut gate, Work::Merge);
 }
 
 /// Makes sets of rows for the queries that were noted, step by step, until the gate says no or the flag isn't 0. (Lucene makes a
@@ -88,14 +134,7 @@ pub fn warmer<D: Directory + Shelf, J: Naming, R: Wait, G: Gate>(
     ended: &AtomicU64,
     mut gate: G,
 ) {
-    for _ in rt.forever() {
-        if ended.load(Ordering::SeqCst) != 0 || !gate.go_on() {
-            return;
-        }
-        if service.turn(rt, &mut gate, Chore::Warm).is_idle() {
-            gate.idle();
-        }
-    }
+    run_worker(rt, service, ended, &mut gate, Work::Warm);
 }
 
 fn run_session<D: Directory + Shelf, J: Naming, R, C: Caller<D, J, R>>(

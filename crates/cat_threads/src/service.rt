@@ -4,15 +4,16 @@
 mod begun;
 mod chores;
 mod desk;
-mod keeper;
+mod lending;
 mod naming;
 mod pass;
 mod service;
 mod writes;
 
 pub use begun::Begun;
+pub(crate) use chores::Progress;
 pub use chores::{Chore, Outcome};
-pub use keeper::{Keeper, Noted};
+pub use desk::Noted;
 pub use naming::Naming;
 pub use pass::Pass;
 pub use service::Service;

@@ -27,7 +27,7 @@ use Rattle.cat_ledger_laws.specs.lines.RefusalLaws.{command_of}
 use Rattle.cat_model.specs.Write.{Write}
 use Rattle.cat_threads.proofs.service.Answering.{close_answers, left_answers, open_answers, opening, quiet_answers, refresh_answers, same_answers}
 
--- what a keeper of a ledger and of these sets carries
+-- what holds of a ledger and of the sets beside it
 abbrev pub IsKept : {D : Type 0} → (D → ToldFiles) → Filters → LedgerOnDevice D → Type 0
 IsKept bytes f l = IsCarried (bytes (device_in l)) (shape_in l) × HasSets f (shape_in l)
 

@@ -8,7 +8,6 @@ use Rattle.cat_directory.specs.declared.device.Holder as holder
 use Rattle.cat_commands.proofs.ledger_laws.ledger.Ledger.TheSendSync as ledger
 use Rattle.cat_threads.specs.declared.service.naming.Naming as naming
 use Rattle.cat_threads.specs.contracts.service.desk.Desk as Desk
-use Rattle.cat_threads.specs.contracts.service.keeper.Keeper as Keeper
 use Rattle.cat_threads.specs.contracts.service.pass.Pass as Pass
 use Rattle.cat_threads.specs.contracts.service.service.Service as Service
 use Rattle.cat_threads.proofs.service.SetsCross.{filters_send}
@@ -16,11 +15,8 @@ use Rattle.cat_threads.proofs.service.SetsCross.{filters_send}
 ruleset base = (sendable, crosses)
 
 module _ (D J : RattleType) (g : holder.Ghosts D.Denot) (n : naming.Ghosts J.Denot) where
-  keeper_send : IsSend D → IsSend (Keeper.the_field D g).row
-  keeper_send d = search (base, filters_send, ledger.the_send) depth 20
-
   desk_send : IsSend D → IsSend J → IsSend (Desk.the_row D J g n)
-  desk_send d j = let k = keeper_send d in search (base, seat.the_send) depth 20
+  desk_send d j = search (base, seat.the_send, filters_send, ledger.the_send) depth 20
 
   pub service_sync : IsSend D → IsSend J → IsSync J → IsSync (Service.the_row D J g n)
   service_sync d j y = let k = desk_send d j in search (base, cell.the_field_sync) depth 20

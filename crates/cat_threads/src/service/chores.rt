@@ -44,6 +44,17 @@ pub enum Chore {
     Files(Generation),
 }
 
+/// What came of a worker's chore.
+#[derive(Clone, Copy)]
+pub(crate) enum Progress {
+    /// A merge is done.
+    Merged,
+    /// Nothing was done: nothing was to be done, or it was refused.
+    Idle,
+    /// Something else was done.
+    Other,
+}
+
 /// A chore, and what it was answered. [`Service::maintain`](crate::Service::maintain) alone makes one, and it can't be copied, so
 /// who has it is sure that the chore was done.
 #[derive(Drop)]
@@ -90,6 +101,17 @@ impl Outcome {
     /// Whether nothing was done: nothing was to be done, or it was refused.
     pub fn is_idle(&self) -> bool {
         matches!(self.answer, Ok(Answer::News(News::Idle)) | Err(_))
+    }
+
+    /// What a worker goes by.
+    pub(crate) fn worker_progress(&self) -> Progress {
+        if self.is_merged() {
+            Progress::Merged
+        } else if self.is_idle() {
+            Progress::Idle
+        } else {
+            Progress::Other
+        }
     }
 }
 

@@ -14,24 +14,36 @@ ghost use Rattle.cat_threads.specs.service.Chores.{IsToldOver, chore_done};
 ghost use Rattle.cat_threads.specs.service.Writes.{PutsForeign, write_of};
 
 use crate::history::{self, Cell, Noting, Seat};
-use crate::service::chores::{Chore, Outcome};
-use crate::service::keeper::{Keeper, Noted};
+use crate::service::chores::{self, Chore, Outcome};
+use crate::service::lending::prepare;
 use crate::service::naming::Naming;
 use crate::service::pass::Pass;
-use crate::service::writes::Write;
+use crate::service::writes::{Write, accept};
 use cat_base::{Refusal, SessionNo, Token, WriteNo};
 use cat_commands::cat_cached_sets::Query;
+use cat_commands::cat_cached_sets::filters::Filters;
 use cat_commands::cat_ledger::cat_ledger_state::Hold;
 use cat_commands::cat_ledger::{Grant, Ledger, Released};
 use cat_commands::cat_protocol::Prepared;
+use cat_commands::sets::segments_are_one;
 use cat_directory::{Directory, Shelf};
+use std::alloc::Global;
 use std::marker::{Brand, Model, PhantomData};
 use std::sync::Wait;
 
-/// The ledger with its cached sets, and the pass that knows its whole list.
+/// That a query was noted. [`Service::note_if_free`](crate::Service::note_if_free) alone makes one, and it can't be copied, so who
+/// has it is sure of the call.
 #[derive(Drop)]
+pub struct Noted {
+    nothing: (),
+}
+
+/// A ledger, the sets of rows that are cached beside it, which make answers cheaper and change none, and the pass that knows the
+/// ledger's whole list. (Lucene: an `IndexWriter`, and the `LRUQueryCache` of its searchers.)
 pub(crate) struct Desk<D: Directory + Shelf, J: Naming> {
-    keeper: Keeper<D>,
+    alloc: Global,
+    ledger: Ledger<D>,
+    filters: Filters,
     start: WriteNo,
     // The token of the newest view.
     newest: Token,
@@ -39,12 +51,31 @@ pub(crate) struct Desk<D: Directory + Shelf, J: Naming> {
     of: PhantomData<J>,
 }
 
+// By hand, and by a call of the ledger's: what is derived is proved anew in each crate that has a lock round a desk, down to the
+// last field of a segment.
+impl<D: Directory + Shelf + Drop, J: Naming> Drop for Desk<D, J> {
+    fn drop(self) {
+        let Desk {
+            alloc: _,
+            ledger,
+            filters: _,
+            start: _,
+            newest: _,
+            scribe: _,
+            of: _,
+        } = self;
+        let _directory = ledger.into_directory();
+    }
+}
+
 impl<D: Directory + Shelf, J: Naming> Model for Desk<D, J> {
     ghost use Rattle.std.specs.Prelude.{◌≡◌, ◌+◌};
     ghost use Rattle.std.specs.Coded.{codes};
     ghost use Rattle.crossbeam_utils.specs.Seq.{cell_view};
     ghost use Rattle.cat_commands.specs.cat_cached_sets.cache.Coding.{query_code};
+    ghost use Rattle.cat_commands.specs.cat_ledger.Lasting.{IsCarried};
     ghost use Rattle.cat_commands.specs.cat_ledger.Ledgers.{device_in, shape_in};
+    ghost use Rattle.cat_commands.specs.sets.Sets.{HasSets};
     ghost use Rattle.cat_threads.specs.sharing.Grounds.{Shares};
     ghost use Rattle.cat_threads.specs.service.Passes.{Shared};
 
@@ -55,7 +86,8 @@ impl<D: Directory + Shelf, J: Naming> Model for Desk<D, J> {
     ghost view = { λ d. record { list = (cell_view d.scribe).list; token = J.from.start.token + (cell_view d.scribe).token } };
 
     ghost invariant = { λ d. (d.scribe.table_id ≡ J.table) × (d.start ≡ J.from.start.token) × (d.newest ≡ J.from.start.token + (cell_view d.scribe).token)
-        × Shares (D.bytes (device_in d.keeper)) (shape_in d.keeper) J.from J.sessions (cell_view d.scribe) };
+        × Shares (D.bytes (device_in d.ledger)) (shape_in d.ledger) J.from J.sessions (cell_view d.scribe)
+        × (IsCarried (D.bytes (device_in d.ledger)) (shape_in d.ledger) × HasSets d.filters (shape_in d.ledger)) };
 }
 
 impl<D: Directory + Shelf, J: Naming> Desk<D, J> {
@@ -104,7 +136,7 @@ impl<D: Directory + Shelf, J: Naming> Desk<D, J> {
         ensures refusal { IfErr result (λ e. (e ≡ Kind) ⊎ (e ≡ Memory) ⊎ (e ≡ Device) ⊎ (e ≡ Spent)) }
     {
         history::join(rt, cell, &mut self.scribe, &mut me.seat);
-        match self.keeper.accept(write) {
+        match accept(&mut self.ledger, write) {
             Ok(number) => {
                 note_number::<W, R>(rt, cell, &mut self.scribe, self.start, self.newest, number);
                 me.seat = history::part(cell, &mut self.scribe);
@@ -134,7 +166,7 @@ impl<D: Directory + Shelf, J: Naming> Desk<D, J> {
         ensures refusal { IfErr result (λ e. (e ≡ Full) ⊎ (e ≡ Memory) ⊎ (e ≡ Device) ⊎ (e ≡ Spent)) }
     {
         history::join(rt, cell, &mut self.scribe, &mut me.seat);
-        match self.keeper.refresh() {
+        match self.ledger.refresh() {
             Ok(token) => {
                 let start = self.start;
                 record_token(rt, cell, &mut self.scribe, &mut self.newest, start, token);
@@ -167,7 +199,7 @@ impl<D: Directory + Shelf, J: Naming> Desk<D, J> {
     {
         let session = me.session;
         history::join(rt, cell, &mut self.scribe, &mut me.seat);
-        let result = self.keeper.acquire(session, token);
+        let result = self.ledger.acquire(session, token);
         me.seat = history::part(cell, &mut self.scribe);
         result
     }
@@ -191,7 +223,7 @@ impl<D: Directory + Shelf, J: Naming> Desk<D, J> {
         ensures refusal { IfErr result (λ e. (e ≡ NotHeld) ⊎ (e ≡ Memory)) }
     {
         history::join(rt, cell, &mut self.scribe, &mut me.seat);
-        let result = self.keeper.prepare(me.session, token, query);
+        let result = prepare(&self.ledger, &mut self.filters, me.session, token, query);
         me.seat = history::part(cell, &mut self.scribe);
         result
     }
@@ -203,42 +235,58 @@ impl<D: Directory + Shelf, J: Naming> Desk<D, J> {
         ensures right { OnOk result (hold.session ≡ session) }
         ensures back { IfErr result (λ h. h ≡ hold) }
     {
-        self.keeper.release(session, hold)
+        self.ledger.release(session, hold)
     }
 
     /// Notes that the query was asked.
     pub(crate) fn note(&mut self, query: Query) -> Noted
         ensures same { self.new ≡ self.old }
     {
-        self.keeper.note(query)
+        self.filters.note(query);
+        Noted { nothing: () }
     }
 
-    /// Does a chore.
+    /// Does a chore, as session 0 asks for it.
     pub(crate) fn maintain(&mut self, chore: Chore) -> Outcome
         ensures same { self.new ≡ self.old }
         ensures chore { chore_done result ≡ chore }
         ensures answered { IsToldOver D.bytes J.from self.old.list result }
     {
-        self.keeper.maintain(chore)
+        // The segments of now agree with those of the recorded views, whose sets are kept too.
+        segments_are_one();
+        let answer = chores::answer(self.alloc, &mut self.ledger, &mut self.filters, &chore);
+        Outcome::of(chore, answer)
     }
 }
 
 impl<D: Directory + Shelf, J: Naming> Desk<D, J> {
-    /// A ledger as it is opened, beside the scribe's pass.
-    pub(crate) fn new(keeper: Keeper<D>, scribe: Seat) -> Desk<D, J>
+    /// A ledger as it is opened, beside the scribe's pass. No set is cached. The ledger is handed back where memory is wanting.
+    pub(crate) fn new(
+        alloc: Global,
+        ledger: Ledger<D>,
+        scribe: Seat,
+    ) -> Result<Desk<D, J>, Ledger<D>>
         requires names { (scribe.table_id ≡ J.table) × (cell_view scribe ≡ scribe_sight [] 0 J.sessions []) }
-        requires ground { J.from ≡ ground_of (shape_in keeper) }
-        requires fresh { IsJustOpened (D.bytes (device_in keeper)) (shape_in keeper) }
-        ensures { (result.list ≡ []) × (result.token ≡ J.from.start.token) }
+        requires ground { J.from ≡ ground_of (shape_in ledger) }
+        requires fresh { IsJustOpened (D.bytes (device_in ledger)) (shape_in ledger) }
+        ensures ok { IfOk result (λ d. (d.list ≡ []) × (d.token ≡ J.from.start.token)) }
+        ensures err { IfErr result (λ l. l ≡ ledger) }
     {
-        let start = keeper.count();
-        Desk {
-            keeper,
+        let Ok(filters) = Filters::new(alloc) else {
+            return Err(ledger);
+        };
+        // A ledger of the model is carried, as any that was opened.
+        ledger.newest_lasts();
+        let start = ledger.count();
+        Ok(Desk {
+            alloc,
+            ledger,
+            filters,
             start,
             newest: start,
             scribe,
             of: PhantomData,
-        }
+        })
     }
 
     /// Compares what a caller has seen with the whole list. The pass is given up.
@@ -259,14 +307,16 @@ impl<D: Directory + Shelf, J: Naming> Desk<D, J> {
         ensures others { NoStrangers J.sessions self.list }
     {
         let Desk {
-            keeper,
+            alloc: _,
+            ledger,
+            filters: _,
             start: _,
             newest: _,
             mut scribe,
             of: _,
         } = self;
         history::look(rt, cell, &mut scribe);
-        keeper.into_ledger()
+        ledger
     }
 }
 

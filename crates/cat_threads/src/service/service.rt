@@ -17,8 +17,7 @@ use crate::history::{self, Cell, Seat};
 use crate::running::Gate;
 use crate::service::begun::Begun;
 use crate::service::chores::{Chore, Outcome};
-use crate::service::desk::Desk;
-use crate::service::keeper::{Keeper, Noted};
+use crate::service::desk::{Desk, Noted};
 use crate::service::naming::Naming;
 use crate::service::pass::Pass;
 use crate::service::writes::Write;
@@ -201,12 +200,13 @@ impl<D: Directory + Shelf, J: Naming> Service<D, J> {
         let Ok(passes) = seats(alloc, &cell, &mut scribe, sessions) else {
             return Err(ledger);
         };
-        let keeper = match Keeper::new(alloc, ledger) {
-            Ok(keeper) => keeper,
-            Err(ledger) => return Err(ledger),
-        };
-        let desk = Mutex::new(Desk::new(keeper, scribe));
-        Ok((Service { cell, desk }, passes))
+        match Desk::new(alloc, ledger, scribe) {
+            Ok(desk) => {
+                let desk = Mutex::new(desk);
+                Ok((Service { cell, desk }, passes))
+            }
+            Err(ledger) => Err(ledger),
+        }
     }
 
     /// The ledger, once all callers have ended. Its table is that of one list of writes, which begins with what each pass has

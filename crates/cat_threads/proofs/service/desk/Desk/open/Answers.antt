@@ -11,6 +11,7 @@ use Rattle.cat_commands.specs.cat_ledger.declared.views.Grant.{Grant}
 use Rattle.cat_ledger_laws.specs.shape.Shapes.{Shape}
 use Rattle.cat_ledger_laws.specs.shape.Steps.{tokens_of}
 use Rattle.cat_threads.proofs.service.Answering.{acquired}
+use Rattle.cat_threads.proofs.service.Beside.{by_acquire}
 use Rattle.cat_threads.proofs.service.Granting.{apart_again, granted_all}
 use Rattle.cat_threads.proofs.service.Spelled.{caller_apart, scribe_alone, scribe_own}
 use Rattle.cat_threads.proofs.service.Telling.{follows_joined, idle_told, same_apart, told_apart}
@@ -50,7 +51,8 @@ invariant_of-self g c =
       p.0 ∙ (j.0 ∙ i.0),
       i.1,
       i.2 ∙ ap (λ (k : ℕ). from.start.token + k) (sym (ap (λ (x : Sight). x.token) is)),
-      acquired g.D.Holder.bytes c.self.inside.keeper c.acquire-result.new.self from sessions v w c.me.inside.session c.args.token c.acquire-result.result a e.asked e.held e.err e.same is,
+      acquired g.D.Holder.bytes c.self.inside.ledger c.acquire-result.new.self from sessions v w c.me.inside.session c.args.token c.acquire-result.result a e.asked e.held e.err e.same is,
+      by_acquire g.D.Holder.bytes c.self.inside.filters c.self.inside.ledger c.acquire-result.new.self c.me.inside.session c.args.token c.acquire-result.result e.asked e.held e.err e.same i.4,
     )
 
 pub returns-clause-given : goal.returns-clause-given
@@ -59,7 +61,7 @@ returns-clause-given g c =
     let j = c.join.ensures in
     let p = c.part.ensures.mine in
     let e = c.acquire-result.ensures in
-    let old = c.self.inside.keeper in
+    let old = c.self.inside.ledger in
     granted_all (g.D.Holder.bytes (device_in old)) (shape_in old) g.J.Naming.from g.J.Naming.sessions (cell_view c.self.inside.scribe)
     c.me.inside.session (cell_view c.me.inside.seat) (cell_view c.join.new.desk) (cell_view c.part.result) c.args.me.now c.args.token c.acquire-result.result
     i.3 c.me.view_is j.seen (ap (λ (x : Sight). x.token) j.desk.1) (ap (λ (x : Sight). x.list) p.1 ∙ ap (λ (x : Sight). x.list) j.desk.1) e.asked e.grant
@@ -69,7 +71,7 @@ not_gone s asked (Ok g) h = h
 not_gone s asked (Err e) h = λ none is. h is (greatest (tokens_of s.views)) (subst (λ o. IsAsked s o (greatest (tokens_of s.views))) (sym none) refl)
 
 pub returns-clause-gone : goal.returns-clause-gone
-returns-clause-gone g c = not_gone (shape_in c.self.inside.keeper) c.args.token c.acquire-result.result c.acquire-result.ensures.gone
+returns-clause-gone g c = not_gone (shape_in c.self.inside.ledger) c.args.token c.acquire-result.result c.acquire-result.ensures.gone
 
 pub returns-clause-told : goal.returns-clause-told
 returns-clause-told g c = told_apart g.J.Naming.from.start.token (cell_view c.join.new.desk) (cell_view c.part.new.desk) (cell_view c.part.result) c.part.ensures.desk.1 c.part.ensures.mine.1

@@ -1,4 +1,4 @@
-use Rattle.std.proofs.Common.{◌≡◌, ℕ, ◌+◌, [], sym, ap, ◌∙◌}
+use Rattle.std.proofs.Common.{◌≡◌, ℕ, ◌+◌, [], refl, sym, ap, ◌∙◌}
 use Rattle.crossbeam_utils.specs.Seq.{cell_view}
 use Rattle.cat_threads.specs.history.Rules.{Sight, scribe}
 use Rattle.cat_commands.specs.cat_ledger.Ledgers.{device_in, shape_in}
@@ -41,14 +41,15 @@ invariant_of-self g c =
       p.0 ∙ (j.0 ∙ i.0),
       i.1,
       i.2 ∙ ap (λ (k : ℕ). from.start.token + k) (sym (ap (λ (x : Sight). x.token) is)),
-      unchanged g.D.Holder.bytes c.self.inside.keeper c.prepare-result.new.self from sessions v w a c.prepare-result.ensures.same is,
+      unchanged g.D.Holder.bytes c.self.inside.ledger c.self.inside.ledger from sessions v w a refl is,
+      (i.4.0, c.prepare-result.ensures.sets),
     )
 
 pub returns-clause-shown : goal.returns-clause-shown
 returns-clause-shown g c =
     let j = c.join.ensures in
     let p = c.part.ensures.mine in
-    let old = c.self.inside.keeper in
+    let old = c.self.inside.ledger in
     prepared_all (g.D.Holder.bytes (device_in old)) (shape_in old) g.J.Naming.from g.J.Naming.sessions (cell_view c.self.inside.scribe) (cell_view c.part.result) c.args.token
     c.prepare-result.result c.self.invariant.3 (ap (λ (x : Sight). x.list) p.1 ∙ ap (λ (x : Sight). x.list) j.desk.1) c.prepare-result.ensures.view
 

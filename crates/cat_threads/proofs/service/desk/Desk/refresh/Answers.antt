@@ -1,9 +1,11 @@
 use Rattle.std.proofs.Common.{◌≡◌, ℕ, ◌+◌, ◌-◌, ◌≤◌, [], length, sym, ap, ◌∙◌, arith}
+use Rattle.std.specs.Prelude.{Ok, Err}
 use Rattle.crossbeam_utils.specs.Seq.{cell_view}
 use Rattle.cat_threads.specs.history.Rules.{Sight, recorded, scribe}
 use Rattle.cat_commands.specs.cat_ledger.Ledgers.{device_in, shape_in}
 use Rattle.cat_threads.proofs.sharing.Sharing.{counts_share, newest_share}
 use Rattle.cat_threads.proofs.service.Answering.{refresh_left, refreshed}
+use Rattle.cat_threads.proofs.service.Beside.{by_refresh}
 use Rattle.cat_threads.proofs.service.Passed.{follows_told}
 use Rattle.cat_threads.proofs.service.Granting.{apart_again, apart_recorded}
 use Rattle.cat_threads.proofs.service.Spelled.{caller_apart, caller_behind, scribe_alone, scribe_own}
@@ -25,7 +27,7 @@ record_token-requires-clause-desk g c =
 pub record_token-requires-clause-token : goal.record_token-requires-clause-token
 record_token-requires-clause-token g c =
     let i = c.self.invariant in
-    let old = c.self.inside.keeper in
+    let old = c.self.inside.ledger in
     let all = counts_share (g.D.Holder.bytes (device_in old)) (shape_in old) g.J.Naming.from g.J.Naming.sessions (cell_view c.self.inside.scribe) i.3 in
     let long = ap (λ (x : Sight). length x.list) c.join.ensures.desk.1 in
     let start = i.1 in
@@ -34,7 +36,7 @@ record_token-requires-clause-token g c =
 
 pub record_token-requires-clause-rises : goal.record_token-requires-clause-rises
 record_token-requires-clause-rises g c =
-    let old = c.self.inside.keeper in
+    let old = c.self.inside.ledger in
     let most = (newest_share (g.D.Holder.bytes (device_in old)) (shape_in old) g.J.Naming.from g.J.Naming.sessions (cell_view c.self.inside.scribe) c.self.invariant.3).1 in
     let long = ap (λ (x : Sight). length x.list) c.join.ensures.desk.1 in
     let top = ap (λ (x : Sight). x.token) c.join.ensures.desk.1 in
@@ -81,7 +83,7 @@ invariant_of-self g c =
     let p = c.part.ensures.desk in
     let v = cell_view c.self.inside.scribe in
     let w = cell_view c.part.new.desk in
-    let old = c.self.inside.keeper in
+    let old = c.self.inside.ledger in
     let new = c.refresh.new.self in
     let bytes = g.D.Holder.bytes in
     let from = g.J.Naming.from in
@@ -98,6 +100,7 @@ invariant_of-self g c =
       i.1,
       omega arith,
       refreshed bytes old new from sessions v w c.args.me.now.session t a its c.in-Ok.ensures.may c.in-Ok.ensures.ok is,
+      by_refresh bytes c.self.inside.filters old new (Ok t) c.in-Ok.ensures.ok c.in-Ok.ensures.may tt i.4,
     )
 
 pub invariant_of-self-in-Err : goal.invariant_of-self-in-Err
@@ -115,7 +118,8 @@ invariant_of-self-in-Err g c =
       p.0 ∙ (j.0 ∙ i.0),
       i.1,
       i.2 ∙ ap (λ (k : ℕ). from.start.token + k) (sym (ap (λ (x : Sight). x.token) is)),
-      refresh_left g.D.Holder.bytes c.self.inside.keeper c.refresh.new.self from sessions v w c.args.me.now.session a c.in-Err.ensures.err is,
+      refresh_left g.D.Holder.bytes c.self.inside.ledger c.refresh.new.self from sessions v w c.args.me.now.session a c.in-Err.ensures.err is,
+      by_refresh g.D.Holder.bytes c.self.inside.filters c.self.inside.ledger c.refresh.new.self (Err c.in-Err.refusal) tt tt c.in-Err.ensures.err i.4,
     )
 
 pub returns-in-Ok-clause-seen : goal.returns-in-Ok-clause-seen
@@ -124,7 +128,7 @@ returns-in-Ok-clause-seen g c =
     let n = c.record_token.ensures.scribe in
     let p = c.part.ensures.mine in
     let v = cell_view c.self.inside.scribe in
-    let old = c.self.inside.keeper in
+    let old = c.self.inside.ledger in
     let i = c.self.invariant in
     let told = g.D.Holder.bytes (device_in old) in
     let all = counts_share told (shape_in old) g.J.Naming.from g.J.Naming.sessions v i.3 in
@@ -153,7 +157,7 @@ returns-in-Ok-clause-idle g c =
 pub returns-in-Ok-clause-token : goal.returns-in-Ok-clause-token
 returns-in-Ok-clause-token g c =
     let i = c.self.invariant in
-    let old = c.self.inside.keeper in
+    let old = c.self.inside.ledger in
     let n = c.record_token.ensures.scribe.1 in
     let p = c.part.ensures.mine.1 in
     let all = counts_share (g.D.Holder.bytes (device_in old)) (shape_in old) g.J.Naming.from g.J.Naming.sessions (cell_view c.self.inside.scribe) i.3 in

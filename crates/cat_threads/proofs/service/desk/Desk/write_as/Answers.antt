@@ -5,10 +5,12 @@ use Rattle.cat_base.specs.declared.refusal.Refusal.TheVariants.{Memory}
 use Rattle.cat_threads.specs.history.Entries.{LogEntry, entry, has_session}
 use Rattle.cat_threads.specs.history.Rules.{Sight, noted, scribe}
 use Rattle.cat_commands.specs.cat_ledger.Ledgers.{device_in, policy_in, shape_in}
+use Rattle.cat_ledger_laws.specs.lines.LineLaws.{tells}
 use Rattle.cat_ledger_laws.specs.lines.RefusalLaws.{command_of}
 use Rattle.cat_threads.proofs.sharing.Sharing.{counts_share, noted_share, still_share}
 use Rattle.cat_threads.specs.service.Passes.{Seen}
 use Rattle.cat_threads.specs.service.Writes.{PutsForeign, write_of}
+use Rattle.cat_threads.proofs.service.Beside.{by_answer}
 use Rattle.cat_threads.proofs.service.Passed.{follows_noted, wrote_noted, has_self}
 use Rattle.cat_threads.proofs.service.Granting.{apart_again, apart_noted, refused_still}
 use Rattle.cat_threads.proofs.service.Refusing.{fields_share}
@@ -78,8 +80,8 @@ invariant_of-self g c =
     let p = c.part.ensures.desk in
     let v = cell_view c.self.inside.scribe in
     let w = cell_view c.part.new.desk in
-    let old = c.self.inside.keeper in
-    let new = c.accept.new.self in
+    let old = c.self.inside.ledger in
+    let new = c.accept.new.ledger in
     let bytes = g.D.Holder.bytes in
     let from = g.J.Naming.from in
     let sessions = g.J.Naming.sessions in
@@ -93,6 +95,7 @@ invariant_of-self g c =
       i.2 ∙ ap (λ (k : ℕ). from.start.token + k) (sym (ap (λ (x : Sight). x.token) is)),
       noted_share (policy_in old) (bytes (device_in old)) (bytes (device_in new)) (shape_in old) (shape_in new) from sessions v w session a c.in-Ok.number write
           (c.in-Ok.ensures.answers session) is,
+      by_answer bytes c.self.inside.filters old new session (command_of write) (tells c.in-Ok.number) (c.in-Ok.ensures.answers session) i.4,
     )
 
 pub invariant_of-self-in-Err : goal.invariant_of-self-in-Err
@@ -103,8 +106,8 @@ invariant_of-self-in-Err g c =
     let p = c.part-in-Err.ensures.desk in
     let v = cell_view c.self.inside.scribe in
     let w = cell_view c.part-in-Err.new.desk in
-    let old = c.self.inside.keeper in
-    let new = c.accept.new.self in
+    let old = c.self.inside.ledger in
+    let new = c.accept.new.ledger in
     let bytes = g.D.Holder.bytes in
     let from = g.J.Naming.from in
     let sessions = g.J.Naming.sessions in
@@ -117,6 +120,7 @@ invariant_of-self-in-Err g c =
       i.2 ∙ ap (λ (k : ℕ). from.start.token + k) (sym (ap (λ (x : Sight). x.token) is)),
       still_share (policy_in old) (bytes (device_in old)) (bytes (device_in new)) (shape_in old) (shape_in new) from sessions v w session a (command_of write) (Err Memory)
           (refused_still write) (c.in-Err.ensures.refused session) is,
+      by_answer bytes c.self.inside.filters old new session (command_of write) (Err Memory) (c.in-Err.ensures.refused session) i.4,
     )
 
 pub returns-in-Ok-clause-seen : goal.returns-in-Ok-clause-seen
@@ -135,7 +139,7 @@ returns-in-Ok-clause-wrote g c =
     let start = g.J.Naming.from.start.token in
     let session = c.me.inside.session in
     let write = write_of c.args.write in
-    let old = c.self.inside.keeper in
+    let old = c.self.inside.ledger in
     let v = cell_view c.self.inside.scribe in
     let joined = cell_view c.join.new.desk in
     let named : g.W.Noting.entry ≡ entry session write = c.requires.named ∙ ap (λ (s : ℕ). entry s write) (sym (ap (λ (x : Seen). x.session) c.me.view_is)) in
@@ -149,7 +153,7 @@ returns-in-Ok-clause-wrote g c =
 
 pub returns-in-Err-clause-kind : goal.returns-in-Err-clause-kind
 returns-in-Err-clause-kind g c =
-    let old = c.self.inside.keeper in
+    let old = c.self.inside.ledger in
     let same = fields_share (g.D.Holder.bytes (device_in old)) (shape_in old) g.J.Naming.from g.J.Naming.sessions (cell_view c.self.inside.scribe) c.self.invariant.3 in
     λ is. subst (λ s. PutsForeign s (write_of c.args.write)) same (c.in-Err.ensures.kind is)
 
@@ -158,7 +162,7 @@ returns-in-Ok-clause-told g c = told_apart g.J.Naming.from.start.token (cell_vie
 
 pub returns-in-Ok-clause-list : goal.returns-in-Ok-clause-list
 returns-in-Ok-clause-list g c =
-    let old = c.self.inside.keeper in
+    let old = c.self.inside.ledger in
     let all = counts_share (g.D.Holder.bytes (device_in old)) (shape_in old) g.J.Naming.from g.J.Naming.sessions (cell_view c.self.inside.scribe) c.self.invariant.3 in
     noted_apart g.J.Naming.from.start.token c.in-Ok.number (shape_in old).count (cell_view c.self.inside.scribe) (cell_view c.join.new.desk) (cell_view c.note_number.new.scribe) (cell_view c.part.new.desk) (cell_view c.me.inside.seat).own g.W.Noting.entry c.args.self.now c.self.view_is c.join.ensures.desk.1 c.note_number.ensures.1 c.part.ensures.desk.1 c.in-Ok.ensures.number all
 
@@ -209,7 +213,7 @@ returns-in-Err-clause-refusal g c = c.in-Err.ensures.refusal
 pub note_number-requires-clause-number : goal.note_number-requires-clause-number
 note_number-requires-clause-number g c =
     let i = c.self.invariant in
-    let old = c.self.inside.keeper in
+    let old = c.self.inside.ledger in
     let v = cell_view c.self.inside.scribe in
     let joined = cell_view c.join.new.desk in
     let all = counts_share (g.D.Holder.bytes (device_in old)) (shape_in old) g.J.Naming.from g.J.Naming.sessions v i.3 in

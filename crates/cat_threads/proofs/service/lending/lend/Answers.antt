@@ -4,7 +4,7 @@ use Rattle.cat_commands.specs.cat_cached_sets.cat_query.declared.query.Query.{Qu
 use Rattle.cat_commands.specs.cat_cached_sets.cat_query.View.{query_of}
 use Rattle.cat_commands.specs.cat_cached_sets.cat_views.Sets.{AreSets}
 use Rattle.cat_commands.specs.cat_cached_sets.filters.Known.{Knows}
-use Rattle.cat_threads.proofs.service.keeper.lend.Goals as goal
+use Rattle.cat_threads.proofs.service.lending.lend.Goals as goal
 
 pub with-requires : goal.with-requires
 with-requires c =
