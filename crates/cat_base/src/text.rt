@@ -13,7 +13,6 @@ use std::marker::Model;
 pub const SHORT_BYTES: usize = 16;
 
 /// Where the bytes of a text lie.
-#[derive(Drop)]
 pub(crate) enum Place {
     /// In the value.
     Short(ArrayString<SHORT_BYTES>),
@@ -21,8 +20,16 @@ pub(crate) enum Place {
     Long(String),
 }
 
+impl Drop for Place {
+    fn drop(self) {
+        match self {
+            Place::Short(it) => drop(it),
+            Place::Long(it) => drop(it),
+        }
+    }
+}
+
 /// An owned text, equal to and ordered with others by its UTF-8 bytes. Contracts see it as the list of these bytes.
-#[derive(Drop)]
 pub struct Text {
     place: Place,
 }
@@ -36,6 +43,13 @@ impl Model for Text {
     ghost view = { λ t. place_bytes t.place };
 
     ghost invariant = { λ t. LiesRight t.place };
+}
+
+impl Drop for Text {
+    fn drop(self) {
+        let Text { place } = self;
+        drop(place);
+    }
 }
 
 /// The text in a value, if it is short.
@@ -161,7 +175,7 @@ impl fmt::Debug for Text {
 }
 
 /// A set of texts, each once. Contracts see it as the list of its texts in byte order.
-#[derive(Debug, Drop)]
+#[derive(Debug)]
 pub struct TextSet {
     texts: Vec<Text>,
 }
@@ -175,6 +189,13 @@ impl Model for TextSet {
     ghost view = { λ s. s.texts.items };
 
     ghost invariant = { λ s. IsTextSet s.texts.items };
+}
+
+impl Drop for TextSet {
+    fn drop(self) {
+        let TextSet { texts } = self;
+        drop(texts);
+    }
 }
 
 impl TextSet {
