@@ -7,8 +7,8 @@ use Rattle.cat_base.specs.declared.refusal.Refusal.TheVariants.{Count, SortField
 use Rattle.cat_model.specs.Text.{Text, IsOneLine, same_text}
 use Rattle.cat_model.specs.Item.{Schema, Kind, kind_of, Record}
 use Rattle.cat_model.specs.Query.{Query}
-use Rattle.cat_model.specs.Page.{Sort, Page, page_of}
-use Rattle.cat_model.specs.Facets.{Facets, facets_in}
+use Rattle.cat_model.specs.Page.{Sort, Page, hits, page_of}
+use Rattle.cat_model.specs.Facets.{Facets, facets_of}
 use Rattle.cat_model.specs.Limits.{page_limit}
 
 -- A read without its token. A text that spells no query is the refusal of its fault, and so is a wrong id.
@@ -71,7 +71,7 @@ answer schema rs (Read.find n sort mark (Ok q)) =
 answer schema rs (Read.facets dim n (Err e)) = Err e
 answer schema rs (Read.facets dim n (Ok q)) =
     cond (is_facet_kind (kind_of schema dim))
-    (cond (ltb page_limit n) (Err Count) (Ok (Found.facets (facets_in rs q dim n))))
+    (cond (ltb page_limit n) (Err Count) (Ok (Found.facets (facets_of (hits rs q) dim n))))
     (Err NotFacet)
 answer schema rs (Read.get (Err e)) = Err e
 answer schema rs (Read.get (Ok id)) = Ok (Found.source (stored rs id))

@@ -4,10 +4,10 @@ use Rattle.std.specs.List.{flat_map}
 use Rattle.cat_base.specs.Bytes.{spelled_u64, spelled_bytes}
 use Rattle.cat_model.specs.Text.{Text}
 use Rattle.cat_model.specs.Item.{Schema, IsSchema}
-use Rattle.cat_model.specs.Forms.{IsCommitText}
+use Rattle.cat_model.specs.Forms.{IsPlain}
 use Rattle.cat_model.specs.Files.{Name, IsFileNumber}
 use Rattle.cat_model.specs.SegmentFile.{spelled_each, spelled_field}
-use Rattle.cat_model.specs.Limits.{last_number, segment_limit}
+use Rattle.cat_model.specs.Limits.{commit_text_limit, last_number, segment_limit}
 
 -- The two versions of the file. The first knows no text; it is read, and the second alone is written.
 pub data Version : Type 0 where
@@ -35,7 +35,7 @@ pub record CommitFile : Type 0 where
 -- the first version has no text, and the second one with the form of texts of commits
 abbrev pub HasText : Version → Text → Type 0
 HasText Version.first text = text ≡ []
-HasText Version.second text = IsCommitText text
+HasText Version.second text = IsPlain commit_text_limit text
 
 -- a segment number of before the next one, and a live file of no later commit
 pub record IsListed (generation next : ℕ) (s : ListedSegment) : Type 0 where

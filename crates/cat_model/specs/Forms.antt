@@ -14,22 +14,24 @@ use Rattle.cat_model.specs.Limits.{keyword_limit, label_limit, source_limit, com
 abbrev pub is_plain_byte : ℕ → Bool
 is_plain_byte b = nat_le 32 b && not (b == 127)
 
--- a keyword: at most `keyword_limit` bytes, no control character of ASCII among them
-pub record IsKeyword (text : Text) : Type 0 where
+-- at most so many bytes, no control character of ASCII among them: a keyword, within `keyword_limit`, or the text of a commit, within
+-- `commit_text_limit`
+pub record IsPlain (limit : ℕ) (text : Text) : Type 0 where
   pub utf8 : IsUtf8 text
-  pub short : length text ≤ keyword_limit
+  pub short : length text ≤ limit
   pub plain : list_all is_plain_byte text ≡ true
+
+abbrev pub IsKeyword : Text → Type 0
+IsKeyword text = IsPlain keyword_limit text
 
 -- a label: a keyword that isn't empty
 pub record IsLabel (text : Text) : Type 0 where
-  pub keyword : IsKeyword text
+  pub keyword : IsPlain keyword_limit text
   pub some : 0 < length text
 
 -- the text of a commit: at most `commit_text_limit` bytes, no control character of ASCII among them
-pub record IsCommitText (text : Text) : Type 0 where
-  pub utf8 : IsUtf8 text
-  pub short : length text ≤ commit_text_limit
-  pub plain : list_all is_plain_byte text ≡ true
+abbrev pub IsCommitText : Text → Type 0
+IsCommitText text = IsPlain commit_text_limit text
 
 -- a byte of a word, which is no capital
 abbrev pub is_low_byte : ℕ → Bool
@@ -45,7 +47,7 @@ pub record IsWord (text : Text) : Type 0 where
 -- what an item has in a field has the forms of its kind
 abbrev pub IsFormed : Content → Type 0
 IsFormed (Content.words ws) = All IsWord ws
-IsFormed (Content.keyword k) = IfSome k IsKeyword
+IsFormed (Content.keyword k) = IfSome k (IsPlain keyword_limit)
 IsFormed (Content.number z) = IfSome z (FitsSigned w64)
 IsFormed (Content.labels ls) = (length ls ≤ label_limit) × All IsLabel ls
 

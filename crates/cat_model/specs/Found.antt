@@ -48,7 +48,8 @@ pub data FindsAfterwards (from : Opened) (run : Run) (found : Opened) : Type 0 w
   none : FindsNothing from run found → FindsAfterwards from run found
 
 -- Whatever a crash leaves of the files of a call that always tells of them: however a directory with these files is opened, it finds the
--- newest commit of the call's run; or one above it, where a COMMIT was refused since; or, where there is none, nothing.
+-- newest commit of the call's run; or that of a later COMMIT, which was refused, with its text, its token and their table; or, where there is
+-- none, nothing.
 abbrev pub CallsAreFound : Json → {D E : Type 0} → DirectoryKind D → DirectoryKind E → Type 0
 CallsAreFound json {D} {E} kind kind₂ =
     TellsAlways kind

@@ -32,6 +32,10 @@ pub use Rattle.cat_base.specs.declared.numbers.TheConstants.{MAX_DEPTH as depth_
 pub use Rattle.cat_base.specs.declared.numbers.TheConstants.{MAX_PAGE as page_limit}
 -- the recorded views
 pub use Rattle.cat_base.specs.declared.numbers.TheConstants.{MAX_RECORDS as view_limit}
+-- the sets of rows that are cached
+pub use Rattle.cat_base.specs.declared.numbers.TheConstants.{MAX_CACHED_SETS as set_limit}
+-- the queries that sets are made for
+pub use Rattle.cat_base.specs.declared.numbers.TheConstants.{MAX_NOTED_QUERIES as noted_limit}
 -- ---- segments and commits
 
 -- the records in the write buffer

@@ -72,7 +72,7 @@ spelling Said.refresh = codes "REFRESH" ∷ []
 spelling Said.open_newest = codes "OPEN" ∷ []
 spelling (Said.open_at t) = codes "OPEN" ∷ decimal t ∷ []
 spelling (Said.close t) = codes "CLOSE" ∷ decimal t ∷ []
-spelling (Said.find t n sort mark query) = codes "FIND" ∷ decimal t ∷ decimal n ∷ sort_text sort ∷ mark_text mark ∷ query ∷ []
+spelling (Said.find t n sort mark query) = codes "FIND" ∷ decimal t ∷ decimal n ∷ sort_text sort ∷ option_map_or decimal mark (codes ".") ∷ query ∷ []
 spelling (Said.facets t dim n query) = codes "FACETS" ∷ decimal t ∷ dim ∷ decimal n ∷ query ∷ []
 spelling (Said.get t id) = codes "GET" ∷ decimal t ∷ id ∷ []
 spelling (Said.files_of_token t) = codes "FILES" ∷ codes "t" ∷ decimal t ∷ []
@@ -161,7 +161,7 @@ abbrev pub answer_words : Answer → List Text
 answer_words (Answer.number n) = decimal n ∷ []
 answer_words (Answer.found (Found.page p)) = decimal (length p.entries) ∷ decimal p.total ∷ []
 answer_words (Answer.found (Found.facets f)) = decimal f.matching ∷ decimal f.met ∷ []
-answer_words (Answer.found (Found.source s)) = source_text s ∷ []
+answer_words (Answer.found (Found.source s)) = unwrap_or s (codes ".") ∷ []
 answer_words (Answer.names names) = decimal (length names) ∷ []
 answer_words (Answer.commit_text text) = (codes "=" ++ text) ∷ []
 answer_words (Answer.news news) = news_words news
@@ -180,10 +180,10 @@ segment_words p = decimal p.number ∷ decimal p.rows ∷ decimal p.live ∷ []
 
 -- the further lines of an answer
 abbrev pub further : Answer → List (List Text)
-further (Answer.found (Found.page p)) = map entry_words p.entries
-further (Answer.found (Found.facets f)) = map counted_words f.counts
+further (Answer.found (Found.page p)) = map (λ e. decimal e.number ∷ e.id ∷ key_text e.key ∷ []) p.entries
+further (Answer.found (Found.facets f)) = map (λ c. decimal c.count ∷ c.label ∷ []) f.counts
 further (Answer.names names) = map (λ name. name ∷ []) names
-further (Answer.news (News.state st)) = map segment_words st.segments
+further (Answer.news (News.state st)) = map (λ x. decimal x.number ∷ decimal x.rows ∷ decimal x.live ∷ []) st.segments
 further _ = []
 
 -- the number of a refusal, and the place where a text is no query

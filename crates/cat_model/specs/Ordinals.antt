@@ -1,6 +1,6 @@
 -- Dictionaries: the texts of a field of a segment, each under its ordinal, as in Lucene's SortedDocValues (lookupOrd,
 -- lookupTerm) and SortedSetDocValues; and where each text stands, as in its Terms and PostingsEnum.
-use Rattle.std.specs.Prelude.{◌≡◌, ℕ, ◌<◌, Bool, List, [], ◌∷◌, length, map, slice_index_or, Option, Some, None, Contains}
+use Rattle.std.specs.Prelude.{◌≡◌, ℕ, ◌<◌, Bool, List, [], length, map, slice_index_or, Option, Some, None, Contains, option_to_list}
 use Rattle.std.specs.List.{flat_map, list_any}
 use Rattle.cat_base.specs.Texts.{sorted_set}
 use Rattle.cat_model.specs.Text.{Text, same_text}
@@ -25,9 +25,8 @@ rows_having text rows = map (list_any (same_text text)) rows
 
 -- the indices of the rows that have the text, rising
 abbrev pub postings_of : Text → List (List Text) → List ℕ
-postings_of text rows = indices (rows_having text rows)
+postings_of text rows = indices (map (list_any (same_text text)) rows)
 
 -- the text that a row has, as a list of one text or none
 abbrev pub texts_of : Option Text → List Text
-texts_of None = []
-texts_of (Some t) = t ∷ []
+texts_of text = option_to_list text

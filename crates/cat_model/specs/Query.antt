@@ -1,7 +1,8 @@
 -- Queries and what they match: Lucene's BooleanQuery, with the MUST, MUST_NOT and SHOULD of BooleanClause.Occur, over
 -- MatchAllDocsQuery, TermQuery, PrefixQuery, TermRangeQuery and the exact and range queries of LongField. Nothing is scored.
-use Rattle.std.specs.Prelude.{ℤ, Bool, true, false, not, ◌&&◌, ◌||◌, Option, Some, None, int_lt}
+use Rattle.std.specs.Prelude.{ℤ, Bool, true, false, not, ◌&&◌, ◌||◌, Option, int_lt}
 use Rattle.std.specs.List.{list_any}
+use Rattle.std.specs.Option.{option_map_or}
 use Rattle.cat_model.specs.Text.{Text, same_text, text_le, has_prefix}
 use Rattle.cat_model.specs.Item.{Item, content_of, words_in, labels_in, keyword_in, number_in}
 
@@ -32,13 +33,11 @@ mutual
 
 -- there is a value, and it passes the test
 abbrev pub has_some : {X : Type 0} → (X → Bool) → Option X → Bool
-has_some test None = false
-has_some test (Some x) = test x
+has_some test x = option_map_or test x false
 
 -- an open end bounds nothing
 abbrev pub open_or : {X : Type 0} → (X → Bool) → Option X → Bool
-open_or test None = true
-open_or test (Some x) = test x
+open_or test x = option_map_or test x true
 
 -- the first number is at most the second
 abbrev pub int_le : ℤ → ℤ → Bool
@@ -72,13 +71,13 @@ abbrev mutual
   primary_matches Primary.everything i = true
   primary_matches (Primary.word f w) i = list_any (same_text w) (words_in (content_of f i))
   primary_matches (Primary.word_prefix f p) i = list_any (has_prefix p) (words_in (content_of f i))
-  primary_matches (Primary.keyword f k) i = has_some (same_text k) (keyword_in (content_of f i))
-  primary_matches (Primary.keyword_prefix f p) i = has_some (has_prefix p) (keyword_in (content_of f i))
+  primary_matches (Primary.keyword f k) i = option_map_or (same_text k) (keyword_in (content_of f i)) false
+  primary_matches (Primary.keyword_prefix f p) i = option_map_or (has_prefix p) (keyword_in (content_of f i)) false
   primary_matches (Primary.keyword_range f low high) i =
-      has_some (λ k. open_or (λ a. text_le a k) low && open_or (text_le k) high) (keyword_in (content_of f i))
-  primary_matches (Primary.number f n) i = has_some (λ m. int_le n m && int_le m n) (number_in (content_of f i))
+      option_map_or (λ k. option_map_or (λ a. text_le a k) low true && option_map_or (text_le k) high true) (keyword_in (content_of f i)) false
+  primary_matches (Primary.number f n) i = option_map_or (λ m. int_le n m && int_le m n) (number_in (content_of f i)) false
   primary_matches (Primary.number_range f low high) i =
-      has_some (λ n. open_or (λ a. int_le a n) low && open_or (int_le n) high) (number_in (content_of f i))
+      option_map_or (λ n. option_map_or (λ a. int_le a n) low true && option_map_or (int_le n) high true) (number_in (content_of f i)) false
   primary_matches (Primary.label f l) i = list_any (same_text l) (labels_in (content_of f i))
   primary_matches (Primary.label_prefix f p) i = list_any (has_prefix p) (labels_in (content_of f i))
   primary_matches (Primary.group q) i = obeyed q i && supported q i

@@ -50,9 +50,9 @@ pub record BeginsWith (told : ToldByName) (schema : Schema) (first : ℕ) (s : S
   pub next : s.next_segment ≡ max first restored.commit.next
 
 -- How it stands before the first line: at the newest commit, or without a segment where no commit is there; nothing waits, no merge is in the
--- making, no generation was tried, and the numbers that come next are the least that are above those in the names of the directory's files. No
--- failure is counted but those that the directory had counted. Or one more is, where the directory can fail, as the second argument says: a
--- file that nobody needs couldn't be deleted, and waits for a SWEEP.
+-- making, no set is cached, and no generation was tried; and the numbers that come next are the least that are above those in the names of the
+-- directory's files. No failure is counted but those that the directory had counted. Or one more is, where the directory can fail, as the
+-- second argument says: a file that nobody needs couldn't be deleted, and waits for a SWEEP.
 pub record StandsFirst (told : ToldByName) (fails : Type 0) (failures : ℕ) (schema : Schema) (s : Standing) : Type 0 where
   pub names : List Name
   pub listed : AreNamesIn told names
@@ -61,6 +61,7 @@ pub record StandsFirst (told : ToldByName) (fails : Type 0) (failures : ℕ) (sc
   pub commit : BeginsWith told schema first s ⊎ (TellsNoCommit told × (s.stat.segments ≡ []) × (s.next_segment ≡ max first 1))
   pub waits : s.stat.buffered ≡ 0
   pub idle : s.merging ≡ None
+  pub cache : s.cache ≡ record { sets = []; noted = []; making = None }
   pub counted : (s.failures ≡ failures) ⊎ (fails × CountsOne failures s.failures × (0 < s.stat.pending))
   pub untried : s.tried ≡ []
 

@@ -13,6 +13,7 @@
 use Rattle.std.specs.Prelude.{◌≡◌, ◌⊎◌, ℕ, ◌+◌, ◌-◌, ◌<◌, ◌≤◌, Bool, true, false, not, ◌&&◌, ◌||◌, ltb, max, List, [], ◌∷◌, ◌++◌, length, filter, filter_map, map, count_by, Option, Some, None, option_to_list, find, Result, Ok, Err, cond, IsTrue, ◌==◌}
 use Rattle.std.specs.List.{list_any, list_all, last_or}
 use Rattle.std.specs.Option.{option_map_or, unwrap_or}
+use Rattle.std.specs.Result.{result_map_both}
 use Rattle.cat_base.specs.declared.refusal.Refusal.{Refusal}
 use Rattle.cat_base.specs.Refusals.{number_of}
 use Rattle.cat_base.specs.declared.refusal.Refusal.TheVariants.{Line as NoForm, Spent, NotHeld, Gone, Full, NoCommit, NoSnapshot, Device, Damaged, Memory}
@@ -137,7 +138,7 @@ accepted e = accepted_by e.line.command e.reply
 
 -- the accepted writes of a run, in order
 abbrev pub writes : Run → List Write
-writes run = filter_map accepted run
+writes run = filter_map (λ e. accepted_by e.line.command e.reply) run
 
 -- the number of writes at the end of the run
 abbrev pub now : Start → Run → ℕ
@@ -228,7 +229,7 @@ commit_under cs g = find (λ c. c.generation == g) cs
 
 -- its text
 abbrev pub text_under : List CommitText → ℕ → Text
-text_under cs g = option_map_or (λ c. c.text) (commit_under cs g) []
+text_under cs g = option_map_or (λ c. c.text) (find (λ c. c.generation == g) cs) []
 
 -- the newest commit, which is kept (KeepOnlyLastCommitDeletionPolicy)
 abbrev pub newest_commit : Opened → Run → Option ℕ
@@ -276,8 +277,7 @@ may_refuse c e = list_any (λ other. number_of e == number_of other) (Memory ∷
 
 -- what was found is told, or why nothing was
 abbrev pub found_reply : Result Found Refusal → Reply
-found_reply (Ok f) = Ok (Answer.found f)
-found_reply (Err e) = Err e
+found_reply r = result_map_both Answer.found (λ e. e) r
 
 -- a fault of the read comes before that its token is not held
 abbrev pub or_not_held : Option Refusal → Reply
@@ -285,7 +285,8 @@ or_not_held fault = Err (unwrap_or fault NotHeld)
 
 -- the reply to a read, by whether its token is held: the answer over the table at it
 abbrev pub read_reply : Bool → Schema → List Record → Read → Reply
-read_reply held schema rs asked = cond held (found_reply (answer schema rs asked)) (or_not_held (query_refusal asked))
+read_reply held schema rs asked =
+    cond held (result_map_both Answer.found (λ e. e) (answer schema rs asked)) (Err (unwrap_or (query_refusal asked) NotHeld))
 
 -- the reply to a write after so many
 abbrev pub write_reply : ℕ → Reply
@@ -357,11 +358,15 @@ Stops from past s c r =
 abbrev pub Fits : Opened → Run → Exchange → Type 0
 Fits from past e = Answers from past e.line.session e.line.command e.reply ⊎ Stops from past e.line.session e.line.command e.reply
 
+-- so with each exchange of the rest of a run, by what was before it
+abbrev pub EachBehind : (Run → Exchange → Type 0) → Run → Run → Type 0
+EachBehind So past [] = Unit {0}
+EachBehind So past (e ∷ rest) = So past e × EachBehind So (past ++ e ∷ []) rest
+
 -- each reply of the rest fits what was before it
 abbrev pub FitsFrom : Opened → Run → Run → Type 0
-FitsFrom from past [] = Unit {0}
-FitsFrom from past (e ∷ rest) = Fits from past e × FitsFrom from (past ++ e ∷ []) rest
+FitsFrom from past rest = EachBehind (Fits from) past rest
 
 -- each reply fits the run before it
 abbrev pub IsRun : Opened → Run → Type 0
-IsRun from run = FitsFrom from [] run
+IsRun from run = EachBehind (Fits from) [] run

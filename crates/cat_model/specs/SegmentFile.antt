@@ -1,12 +1,13 @@
 -- The file of a segment, `_<n>.seg`, byte by byte. The layout is our own; it holds what Lucene's codec holds in its
 -- FieldInfosFormat, PostingsFormat and DocValuesFormat.
-use Rattle.std.specs.Prelude.{◌≡◌, ℕ, suc, ℤ, not, List, [], ◌∷◌, ◌++◌, length, map, codes, Option, Some, None}
+use Rattle.std.specs.Prelude.{◌≡◌, ℕ, suc, ℤ, not, List, [], ◌∷◌, ◌++◌, length, map, codes, Option, Some, None, option_to_list}
 use Rattle.std.specs.List.{flat_map, prefix_len}
+use Rattle.std.specs.Option.{option_map_or}
 use Rattle.std.specs.Int.{w64, cast_unsigned}
 use Rattle.cat_base.specs.Bytes.{spelled_u32, spelled_u64, spelled_bytes}
 use Rattle.cat_model.specs.Text.{Text, same_text}
 use Rattle.cat_model.specs.Item.{Content, Field, Kind, content_of, words_in, keyword_in, number_in, labels_in}
-use Rattle.cat_model.specs.Ordinals.{dictionary_of, postings_of, texts_of}
+use Rattle.cat_model.specs.Ordinals.{dictionary_of, postings_of}
 use Rattle.cat_model.specs.Files.{IsFileNumber}
 use Rattle.cat_model.specs.View.{Segment, IsSegment, item_in}
 
@@ -39,13 +40,12 @@ ordinal_in dictionary text = prefix_len (λ t. not (same_text t text)) dictionar
 
 -- 0 where the row has no text, else the ordinal plus 1
 abbrev pub code_in : List Text → Option Text → ℕ
-code_in dictionary None = 0
-code_in dictionary (Some text) = suc (ordinal_in dictionary text)
+code_in dictionary value = option_map_or (λ text. suc (ordinal_in dictionary text)) value 0
 
 -- the dictionary of the keywords of rows, and the code of each row's keyword
 abbrev pub spelled_keyword_column : (dictionary : List Text) → List (Option Text) → List ℕ
 spelled_keyword_column dictionary values =
-    spelled_each spelled_bytes dictionary ++ flat_map (λ v. spelled_u32 (code_in dictionary v)) values
+    spelled_each spelled_bytes dictionary ++ flat_map (λ v. spelled_u32 (option_map_or (λ text. suc (ordinal_in dictionary text)) v 0)) values
 
 -- 0 where the row has no number; else 1, and the number in two's complement
 abbrev pub spelled_number : Option ℤ → List ℕ
@@ -60,7 +60,7 @@ spelled_label_column dictionary rows =
 -- the column of what the rows have in a field of the kind
 abbrev pub spelled_contents : Kind → List (Option Content) → List ℕ
 spelled_contents Kind.text rows = spelled_word_column (map words_in rows)
-spelled_contents Kind.keyword rows = spelled_keyword_column (dictionary_of (map texts_of (map keyword_in rows))) (map keyword_in rows)
+spelled_contents Kind.keyword rows = spelled_keyword_column (dictionary_of (map option_to_list (map keyword_in rows))) (map keyword_in rows)
 spelled_contents Kind.number rows = flat_map spelled_number (map number_in rows)
 spelled_contents Kind.facet rows = spelled_label_column (dictionary_of (map labels_in rows)) (map labels_in rows)
 

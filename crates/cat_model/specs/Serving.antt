@@ -8,7 +8,7 @@ use Rattle.cat_model.specs.Text.{Text}
 use Rattle.cat_model.specs.Query.{Query}
 use Rattle.cat_model.specs.Table.{Opened}
 use Rattle.cat_model.specs.Answer.{Found}
-use Rattle.cat_model.specs.Run.{Answer, Command, Fits, IsRun, Reply, Run, greatest, holds, view_tokens}
+use Rattle.cat_model.specs.Run.{Answer, Command, EachBehind, Fits, IsRun, Reply, Run, greatest, holds, view_tokens}
 use Rattle.cat_model.specs.Lines.{line_text}
 use Rattle.cat_model.specs.Heard.{Json}
 use Rattle.cat_model.specs.Files.{Name}
@@ -55,12 +55,6 @@ MayWantIn from run session Command.open_newest =
 MayWantIn from run session (Command.open_at t) = OkFits from run session (Command.open_at t) × (holds session t run ≡ false)
 MayWantIn from run session c = OkFits from run session c
 
--- behind its past, the rest of a run tells want of memory only there
-abbrev pub WantRightly : Opened → Run → Run → Type 0
-WantRightly from past [] = Unit {0}
-WantRightly from past (e ∷ rest) =
-    (e.reply ≡ Err Memory → MayWantIn from past e.line.session e.line.command) × WantRightly from (past ++ e ∷ []) rest
-
 -- ---- a device that failed
 
 -- where the line was told that the device failed, it can fail; the line may have been unreadable
@@ -83,7 +77,7 @@ pub record IsServedIn (json : Json) {D : Type 0} (kind : DirectoryKind D) (devic
   pub is_run : IsRun from (filter_map exchange fitting)
   pub alike : AreLike tolds fitting
   pub same : TellsAlways kind → tolds ≡ fitting
-  pub wanting : WantRightly from [] (filter_map exchange fitting)
+  pub wanting : EachBehind (λ past e. e.reply ≡ Err Memory → MayWantIn from past e.line.session e.line.command) [] (filter_map exchange fitting)
   pub files : AllByRecursion TellsFiles tolds
   pub failing : AllByRecursion (FailsRightly (kind.can_fail device)) tolds
   pub promised : LeavesPromised kind left from (filter_map exchange fitting)

@@ -1,28 +1,37 @@
--- How a service stands between two lines: what a STAT would tell, how far a merge is, which numbers come next, how many failures its
--- directory has counted, and which generations were tried. By it each refusal that stands in place of an OK has its cause, and what
--- maintenance tells is so.
-use Rattle.std.specs.Prelude.{◌≡◌, ◌⊎◌, ℕ, ◌+◌, ◌-◌, ◌<◌, ◌≤◌, min, true, List, [], ◌∷◌, ◌++◌, length, map, sum, option_to_list, Option, Some, None, IfSome, Result, Ok, Err}
+-- How a service stands between two lines: what a STAT would tell, how far a merge is, which sets of rows are cached, which numbers come next,
+-- how many failures its directory has counted, and which generations were tried. By it each refusal that stands in place of an OK has its
+-- cause, and what maintenance tells is so.
+use Rattle.std.specs.Prelude.{◌≡◌, ◌⊎◌, ℕ, ◌+◌, ◌-◌, ◌<◌, ◌≤◌, min, true, List, [], ◌∷◌, ◌++◌, length, map, take, drop, sum, Contains, option_to_list, Option, Some, None, IfSome, Result, Ok, Err, IsOk}
 use Rattle.cat_base.specs.declared.refusal.Refusal.{Refusal}
 use Rattle.cat_base.specs.declared.refusal.Refusal.TheVariants.{Damaged, Device, Memory, Spent}
 use Rattle.cat_model.specs.Text.{IsOneLine, Text}
 use Rattle.cat_model.specs.Answer.{Read, stored}
-use Rattle.cat_model.specs.Limits.{buffer_limit, last_number, row_limit, segment_limit, step_limit}
-use Rattle.cat_model.specs.Run.{Answer, Chore, Command, Exchange, News, Reply, Run, Stat, accepted_by, now, view_tokens, writes}
+use Rattle.cat_model.specs.Limits.{buffer_limit, last_number, noted_limit, row_limit, segment_limit, set_limit, step_limit}
+use Rattle.cat_model.specs.Query.{Query}
+use Rattle.cat_model.specs.Run.{Answer, Chore, Command, Exchange, News, Reply, Run, SegmentStat, Stat, accepted_by, now, view_tokens, writes}
 use Rattle.cat_model.specs.Promised.{refuses_commit}
 use Rattle.cat_model.specs.Table.{Opened, table}
 use Rattle.cat_model.specs.Window.{IsWindow}
 use Rattle.cat_model.specs.Told.{CountsOne}
 
--- how many rows a merge in the making has passed, and of how many
+-- how many rows a merge in the making, or a set, has passed, and of how many
 pub record Progress : Type 0 where
   pub passed : ℕ
   pub rows : ℕ
 
--- What a STAT would tell, with no cached set; the merge in the making; the numbers of the next segment and of the next commit; the failures
--- that the directory has counted; and the generations that COMMITs tried which were refused.
+-- The sets of rows that are cached, each by its query and the number of its segment, the last used first; the queries that sets are made for,
+-- the oldest first; and the set in the making.
+pub record Cache : Type 0 where
+  pub sets : List (Query × ℕ)
+  pub noted : List Query
+  pub making : Option ((Query × ℕ) × Progress)
+
+-- What a STAT would tell, with no cached set; the merge in the making; the cached sets; the numbers of the next segment and of the next
+-- commit; the failures that the directory has counted; and the generations that COMMITs tried which were refused.
 pub record Standing : Type 0 where
   pub stat : Stat
   pub merging : Option Progress
+  pub cache : Cache
   pub next_segment : ℕ
   pub next_generation : ℕ
   pub failures : ℕ
@@ -84,40 +93,100 @@ ForceTells s (News.begun_merge k) = IsToForce s × (k ≡ length s.stat.segments
 ForceTells s n = ⊥
 
 -- What is told is so: a COMMIT tells the generation that comes next, a SWEEP how many files nobody needs, a STAT how the service stands,
--- with some number of cached sets, and a MERGE and a FORCE what they did.
+-- with how many sets are cached, and a MERGE and a FORCE what they did. What a WARM tells is said by what it makes of the sets.
 abbrev pub IsToldOf : (factor least : ℕ) → Standing → Command → Reply → Type 0
 IsToldOf factor least s (Command.commit text) (Ok (Answer.number g)) = g ≡ s.next_generation
 IsToldOf factor least s (Command.chore Chore.merge) (Ok (Answer.news n)) = MergeTells factor least s n
 IsToldOf factor least s (Command.chore Chore.force) (Ok (Answer.news n)) = ForceTells s n
 IsToldOf factor least s (Command.chore Chore.sweep) (Ok (Answer.news n)) = n ≡ News.swept s.stat.pending
-IsToldOf factor least s (Command.chore Chore.stat) (Ok (Answer.news n)) = (sets : ℕ) × (n ≡ News.state (record s.stat { cached = sets }))
+IsToldOf factor least s (Command.chore Chore.stat) (Ok (Answer.news n)) = n ≡ News.state (record s.stat { cached = length s.cache.sets })
 IsToldOf factor least s c reply = Unit {0}
+
+-- ---- cached sets
+
+-- a set is missing: its query is noted, its segment stands, and no set is cached for both
+abbrev pub IsMissing : Standing → Query × SegmentStat → Type 0
+IsMissing s p = Contains s.cache.noted p.0 × Contains s.stat.segments p.1 × (Contains s.cache.sets (p.0, p.1.number) → ⊥)
+
+-- A WARM had nothing to do; it began a set that is missing; it passed more rows of the one in the making, and some are left; or it passed
+-- all that were left: then that set comes first, and the last goes where there are too many.
+abbrev pub WarmTells : Standing → News → Cache → Type 0
+WarmTells s News.idle new = (s.cache.making ≡ None) × ((p : Query × SegmentStat) → IsMissing s p → ⊥) × (new ≡ s.cache)
+WarmTells s News.begun_warming new = (p : Query × SegmentStat) × (s.cache.making ≡ None) × IsMissing s p
+    × (new ≡ record s.cache { making = Some ((p.0, p.1.number), record { passed = 0; rows = p.1.rows }) })
+WarmTells s (News.warmed n) new = (w : (Query × ℕ) × Progress) × (s.cache.making ≡ Some w) × (n ≡ w.1.passed + step_limit) × (n < w.1.rows)
+    × (new ≡ record s.cache { making = Some (w.0, record w.1 { passed = n }) })
+WarmTells s News.stored new = (w : (Query × ℕ) × Progress) × (s.cache.making ≡ Some w) × (w.1.rows ≤ w.1.passed + step_limit)
+    × (new ≡ record s.cache { sets = take set_limit (w.0 ∷ s.cache.sets); making = None })
+WarmTells s n new = ⊥
+
+-- sets of the query were used, one after another: each comes first from then on
+pub data UsesSetsOf (q : Query) : (old new : List (Query × ℕ)) → Type 0 where
+  none : (sets : List (Query × ℕ)) → UsesSetsOf q sets sets
+  one : (n : ℕ) (front back new : List (Query × ℕ)) → UsesSetsOf q ((q, n) ∷ (front ++ back)) new → UsesSetsOf q (front ++ (q, n) ∷ back) new
+
+-- the query was noted: one that is noted already keeps its place, another comes last, and the first goes where there are too many
+abbrev pub NotesQuery : Query → (old new : List Query) → Type 0
+NotesQuery q old new = (Contains old q × (new ≡ old)) ⊎ ((Contains old q → ⊥) × (new ≡ drop (length old + 1 - noted_limit) (old ++ q ∷ [])))
+
+-- a FIND or a FACETS of the query used sets of it, and where it was answered, the query was noted
+abbrev pub SearchMoves : Query → Reply → (old new : Cache) → Type 0
+SearchMoves q (Ok a) old new = UsesSetsOf q old.sets new.sets × NotesQuery q old.noted new.noted × (new.making ≡ old.making)
+SearchMoves q (Err e) old new = UsesSetsOf q old.sets new.sets × (new.noted ≡ old.noted) × (new.making ≡ old.making)
+
+-- the segment of the set in the making stands, if one is in the making
+abbrev pub HasSegmentMade : Standing → Cache → Type 0
+HasSegmentMade s cache = IfSome cache.making (λ w. Contains (map (λ x. x.number) s.stat.segments) w.0.1)
+
+-- What a line makes of the cached sets. A MERGE gives up the set in the making where its segment stands no more; and no line but a FIND, a
+-- FACETS, a WARM and a MERGE changes anything.
+abbrev pub CacheMoves : Standing → Command → Reply → Standing → Type 0
+CacheMoves s (Command.read t (Read.find n sort mark (Ok q))) reply new = SearchMoves q reply s.cache new.cache
+CacheMoves s (Command.read t (Read.facets dim n (Ok q))) reply new = SearchMoves q reply s.cache new.cache
+CacheMoves s (Command.chore Chore.warm) (Ok (Answer.news n)) new = WarmTells s n new.cache
+CacheMoves s (Command.chore Chore.merge) reply new = ((new.cache ≡ s.cache) × (IsOk reply → HasSegmentMade new s.cache))
+    ⊎ ((new.cache ≡ record s.cache { making = None }) × (HasSegmentMade new s.cache → ⊥))
+CacheMoves s c reply new = new.cache ≡ s.cache
 
 -- ---- from one line to the next
 
--- What a line makes of it, whatever it is told: it takes one number of each kind at most, and makes one segment at most; nothing waits more
--- than before but an item that was accepted; a merge comes only where that was told; behind a SWEEP with OK no file waits to be deleted; no
--- failure is forgotten; and a COMMIT that was refused, but not for its text, takes the generation that it tried.
+-- the same segments, in which no more rows are live than were
+abbrev pub LiveRowsFall : (old new : List SegmentStat) → Type 0
+LiveRowsFall [] [] = Unit {0}
+LiveRowsFall (x ∷ xs) (y ∷ ys) = (y.number ≡ x.number) × (y.rows ≡ x.rows) × (y.live ≤ x.live) × LiveRowsFall xs ys
+LiveRowsFall xs ys = ⊥
+
+-- What a line makes of it, whatever it is told: it takes one number of each kind at most; it makes one segment at most, of all that waited,
+-- under a number of its own, and the end of a merge alone takes some away, which stand side by side, for one at most; behind a REFRESH and a
+-- COMMIT with OK nothing waits; nothing waits more than before but an item that was accepted; a merge comes only where that was told; behind a
+-- SWEEP with OK no file waits to be deleted; no failure is forgotten; and a COMMIT that was refused, but not for its text, takes the generation
+-- that it tried.
 pub record MovesOn (s : Standing) (c : Command) (reply : Reply) (new : Standing) : Type 0 where
   pub segment : (s.next_segment ≤ new.next_segment) × (new.next_segment ≤ s.next_segment + 1)
   pub generation : (s.next_generation ≤ new.next_generation) × (new.next_generation ≤ s.next_generation + 1)
   pub taken : (text : Result Text Refusal) (a : Answer) → c ≡ Command.commit text → reply ≡ Ok a → new.next_generation ≡ s.next_generation + 1
-  pub segments : length new.stat.segments ≤ length s.stat.segments + 1
+  pub segments : (mid : List SegmentStat) × LiveRowsFall mid new.stat.segments × ((mid ≡ s.stat.segments)
+      ⊎ ((mid ≡ s.stat.segments ++ record { number = s.next_segment; rows = s.stat.buffered; live = s.stat.buffered } ∷ []) × (new.next_segment ≡ s.next_segment + 1))
+      ⊎ ((front taken made back : List SegmentStat) × (reply ≡ Ok (Answer.news News.done)) × (s.stat.segments ≡ front ++ (taken ++ back))
+      × (mid ≡ front ++ (made ++ back)) × (0 < length taken) × (length made ≤ 1)))
+  pub flushed : (text : Result Text Refusal) (a : Answer) → (c ≡ Command.refresh) ⊎ (c ≡ Command.commit text) → reply ≡ Ok a → new.stat.buffered ≡ 0
   pub waits : new.stat.buffered ≤ s.stat.buffered + length (option_to_list (accepted_by c reply))
   pub merges : s.merging ≡ None → (new.merging ≡ None) ⊎ ((k : ℕ) × (reply ≡ Ok (Answer.news (News.begun_merge k))))
+  pub cache : CacheMoves s c reply new
   pub swept : (a : Answer) → c ≡ Command.chore Chore.sweep → reply ≡ Ok a → new.stat.pending ≡ 0
   pub failures : s.failures ≤ new.failures
   pub tried : (new.tried ≡ s.tried) ⊎ ((refuses_commit c reply ≡ true)
       × (new.tried ≡ s.next_generation ∷ s.tried) × (s.next_generation < new.next_generation))
 
--- Behind its past, the exchange leads from one standing to the next: its reply has its cause and tells what is so, and the numbers of writes
--- and of recorded views are those of the run. Want of memory is told only where no failure was counted.
+-- Behind its past, the exchange leads from one standing to the next: its reply has its cause and tells what is so, and the numbers of writes,
+-- of recorded views and of items are those of the run. Want of memory is told only where no failure was counted.
 pub record HasReason (always : Type 0) (factor least : ℕ) (from : Opened) (past : Run) (s : Standing) (e : Exchange) (new : Standing) : Type 0 where
   pub spent : e.reply ≡ Err Spent → IsSpentFor factor least s e.line.command
   pub counted : e.reply ≡ Err Device → CountsOne s.failures new.failures
   pub quiet : e.reply ≡ Err Memory → new.failures ≡ s.failures
   pub damaged : e.reply ≡ Err Damaged → IsDamagedFor always from past s e.line.command
   pub told : IsToldOf factor least s e.line.command e.reply
+  pub items : s.stat.buffered + sum (map (λ x. x.live) s.stat.segments) ≡ length (table from.start (writes past) (now from.start past))
   pub writes : s.stat.writes ≡ now from.start past
   pub views : s.stat.views ≡ length (view_tokens from.start past)
   pub moves : MovesOn s e.line.command e.reply new

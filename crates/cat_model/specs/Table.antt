@@ -44,8 +44,7 @@ numbered token (w ∷ ws) = record { number = token + 1; write = w } ∷ numbere
 -- the record that a write makes
 abbrev pub record_of : ℕ → Write → Option Record
 record_of n (Write.put i) = Some (record { number = n; item = i })
-record_of n (Write.delete id) = None
-record_of n (Write.delete_where q) = None
+record_of n _ = None
 
 -- the record that a numbered write makes
 abbrev pub put_by : Numbered → Option Record
@@ -62,7 +61,7 @@ stands t ws r = leb r.number t && not (list_any (replaces t r) ws)
 -- the table at the token t
 abbrev pub table : Start → List Write → ℕ → List Record
 table start writes t =
-    filter (stands t (numbered start.token writes)) (start.records ++ filter_map put_by (numbered start.token writes))
+    filter (stands t (numbered start.token writes)) (start.records ++ filter_map (λ w. record_of w.number w.write) (numbered start.token writes))
 
 -- the records that the write leaves
 abbrev pub without : List Record → Write → List Record
