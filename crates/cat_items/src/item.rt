@@ -13,7 +13,6 @@ use std::marker::Model;
 use std::sync::Arc;
 
 /// What an item has in one field.
-#[derive(Drop)]
 pub enum FieldValue {
     /// The words of a text; none where the member is absent.
     Words(TextSet),
@@ -23,6 +22,17 @@ pub enum FieldValue {
     Number(Option<i64>),
     /// The labels of a facet; none where the member is absent.
     Labels(TextSet),
+}
+
+impl Drop for FieldValue {
+    fn drop(self) {
+        match self {
+            FieldValue::Words(it) => drop(it),
+            FieldValue::Keyword(it) => drop(it),
+            FieldValue::Number(_) => {}
+            FieldValue::Labels(it) => drop(it),
+        }
+    }
 }
 
 impl FieldValue {
@@ -69,7 +79,6 @@ fn is_had(field: &Field, own: &Field, value: &FieldValue) -> bool
 
 /// An item as it was put: its id, what it has in each field, and the text that it was read from. Lucene's `Document`,
 /// with its text as a stored field.
-#[derive(Drop)]
 pub struct Item {
     fields: Arc<Vec<Field>>,
     id: Text,
@@ -87,6 +96,21 @@ impl Model for Item {
     ghost view = { item_of_inside };
 
     ghost invariant = { IsKept };
+}
+
+impl Drop for Item {
+    fn drop(self) {
+        let Item {
+            fields,
+            id,
+            values,
+            source,
+        } = self;
+        drop(fields);
+        drop(id);
+        drop(values);
+        drop(source);
+    }
 }
 
 impl Item {

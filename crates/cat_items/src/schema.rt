@@ -31,7 +31,6 @@ pub enum Kind {
 }
 
 /// A field of the catalogue: its name and its kind, as Lucene's `FieldInfo`.
-#[derive(Drop)]
 pub struct Field {
     name: Text,
     kind: Kind,
@@ -44,6 +43,13 @@ impl Model for Field {
     ghost Value = { model.Field };
 
     ghost view = { λ f. record { name = f.name; kind = field_kind_of f.kind } };
+}
+
+impl Drop for Field {
+    fn drop(self) {
+        let Field { name, kind: _ } = self;
+        drop(name);
+    }
 }
 
 impl Field {
@@ -116,7 +122,6 @@ impl PartialEq for Field {
 
 /// The fields of a catalogue, at most 32 and in byte order of their names; copies share them. They are given before
 /// the first item, where Lucene's `FieldInfos` grow with the documents.
-#[derive(Drop)]
 pub struct Schema {
     fields: Arc<Vec<Field>>,
 }
@@ -131,6 +136,13 @@ impl Model for Schema {
     ghost view = { λ s. (arc_value s.fields).items };
 
     ghost invariant = { λ s. model.IsSchema (arc_value s.fields).items };
+}
+
+impl Drop for Schema {
+    fn drop(self) {
+        let Schema { fields } = self;
+        drop(fields);
+    }
 }
 
 impl Schema {
