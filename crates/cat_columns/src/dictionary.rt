@@ -15,7 +15,7 @@ use std::sync::Arc;
 /// without the rows. Copies made by [`Dictionary::share`] hold the texts once.
 ///
 /// Contracts see it as the list of its texts.
-#[derive(Debug, Drop)]
+#[derive(Debug)]
 pub struct Dictionary {
     texts: Arc<TextSet>,
     // Where a text can be, by its hash. There are none where the dictionary is seldom asked.
@@ -33,6 +33,14 @@ impl Model for Dictionary {
     ghost view = { λ d. arc_value d.texts };
 
     ghost invariant = { λ d. IsTextSet (arc_value d.texts) × AreHints (arc_value d.texts) (arc_value d.hints).items };
+}
+
+impl Drop for Dictionary {
+    fn drop(self) {
+        let Dictionary { texts, hints } = self;
+        drop(texts);
+        drop(hints);
+    }
 }
 
 /// Copies of the texts.

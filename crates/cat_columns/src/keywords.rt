@@ -18,7 +18,7 @@ use std::marker::Model;
 /// A keyword for each row, or none: Lucene's `SortedDocValues`.
 ///
 /// Contracts see it as the list of the rows' keywords.
-#[derive(Debug, Drop)]
+#[derive(Debug)]
 pub struct KeywordColumn {
     dictionary: Dictionary,
     /// 0 for a row without a keyword, else its ordinal plus 1.
@@ -34,6 +34,14 @@ impl Model for KeywordColumn {
     ghost view = { λ c. map (text_of_code c.dictionary) c.codes.items };
 
     ghost invariant = { λ c. IsKeywords c.dictionary c.codes.items };
+}
+
+impl Drop for KeywordColumn {
+    fn drop(self) {
+        let KeywordColumn { dictionary, codes } = self;
+        drop(dictionary);
+        drop(codes);
+    }
 }
 
 /// The distinct keywords of the rows.

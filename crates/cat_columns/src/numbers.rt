@@ -11,7 +11,7 @@ use std::marker::Model;
 /// A number for each row, or none: Lucene's `NumericDocValues`.
 ///
 /// Contracts see it as the list of the rows' numbers.
-#[derive(Debug, Drop)]
+#[derive(Debug)]
 pub struct NumberColumn {
     present: RowSet,
     /// 0 for a row without a number.
@@ -27,6 +27,14 @@ impl Model for NumberColumn {
     ghost view = { λ c. numbers c.present c.values.items };
 
     ghost invariant = { λ c. IsNumbers c.present c.values.items };
+}
+
+impl Drop for NumberColumn {
+    fn drop(self) {
+        let NumberColumn { present, values } = self;
+        drop(present);
+        drop(values);
+    }
 }
 
 /// Whether the value lies between the two, both included.

@@ -17,7 +17,7 @@ use std::marker::Model;
 /// A set of rows out of `len`, the rows of a segment, one bit for each: Lucene's `FixedBitSet`.
 ///
 /// Contracts see it as one truth value for each row.
-#[derive(Debug, Drop)]
+#[derive(Debug)]
 pub struct RowSet {
     len: usize,
     blocks: Vec<u64>,
@@ -32,6 +32,13 @@ impl Model for RowSet {
     ghost view = { λ s. flags_of s.len s.blocks.items };
 
     ghost invariant = { λ s. IsBits s.len s.blocks.items };
+}
+
+impl Drop for RowSet {
+    fn drop(self) {
+        let RowSet { len: _, blocks } = self;
+        drop(blocks);
+    }
 }
 
 impl RowSet {

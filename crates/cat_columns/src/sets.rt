@@ -20,7 +20,7 @@ use std::marker::Model;
 /// A set of labels for each row: Lucene's `SortedSetDocValues`.
 ///
 /// Contracts see it as the list of the rows' sets, each as the list of its labels in byte order.
-#[derive(Debug, Drop)]
+#[derive(Debug)]
 pub struct SetColumn {
     dictionary: Dictionary,
     /// Where each row's ordinals end.
@@ -40,6 +40,19 @@ impl Model for SetColumn {
     ghost view = { λ c. pieces 0 c.ends.items (map (text_at c.dictionary) c.ordinals.items) };
 
     ghost invariant = { λ c. IsSets c.dictionary c.ends.items c.ordinals.items };
+}
+
+impl Drop for SetColumn {
+    fn drop(self) {
+        let SetColumn {
+            dictionary,
+            ends,
+            ordinals,
+        } = self;
+        drop(dictionary);
+        drop(ends);
+        drop(ordinals);
+    }
 }
 
 /// The distinct labels of the rows.

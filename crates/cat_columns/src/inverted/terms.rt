@@ -16,7 +16,6 @@ use std::marker::Model;
 /// The words of one field of a segment, each with its postings: the rows that have the word. Lucene's `Terms`, whose
 /// `TermsEnum` seeks a word and whose `PostingsEnum` goes over the rows. Contracts see it as the list of the rows, each with
 /// the set of its words.
-#[derive(Drop)]
 pub struct Terms {
     /// How many rows the segment has, below 2^32.
     pub(crate) len: usize,
@@ -38,6 +37,20 @@ impl Model for Terms {
     ghost view = { λ t. words_of_rows t.len t.words (pieces 0 t.ends.items t.rows.items) };
 
     ghost invariant = { λ t. IsTerms t.len t.words t.ends.items t.rows.items };
+}
+
+impl Drop for Terms {
+    fn drop(self) {
+        let Terms {
+            len: _,
+            words,
+            ends,
+            rows,
+        } = self;
+        drop(words);
+        drop(ends);
+        drop(rows);
+    }
 }
 
 /// Where the postings of the word of this ordinal begin.
