@@ -17,7 +17,6 @@ use std::marker::Model;
 
 /// What each row has in a keyword field, the rows of each text, and those without a text (Lucene: the field's
 /// `SortedDocValues`, and its `Terms`).
-#[derive(Drop)]
 pub struct Keywords {
     values: KeywordColumn,
     terms: Terms,
@@ -34,6 +33,19 @@ impl Model for Keywords {
     ghost view = { λ k. k.values };
 
     ghost invariant = { λ k. (k.terms ≡ map texts_of k.values) × (k.missing.items ≡ rows_with k.values None) };
+}
+
+impl Drop for Keywords {
+    fn drop(self) {
+        let Keywords {
+            values,
+            terms,
+            missing,
+        } = self;
+        drop(values);
+        drop(terms);
+        drop(missing);
+    }
 }
 
 impl Keywords {
@@ -91,7 +103,6 @@ impl Keywords {
 
 /// What each row has in a facet field, and the rows of each label (Lucene: the field's `SortedSetDocValues`, and its
 /// `Terms`).
-#[derive(Drop)]
 pub struct Labels {
     labels: SetColumn,
     terms: Terms,
@@ -105,6 +116,14 @@ impl Model for Labels {
     ghost view = { λ l. l.labels };
 
     ghost invariant = { λ l. l.terms ≡ l.labels };
+}
+
+impl Drop for Labels {
+    fn drop(self) {
+        let Labels { labels, terms } = self;
+        drop(labels);
+        drop(terms);
+    }
 }
 
 impl Labels {
@@ -132,7 +151,6 @@ impl Labels {
 }
 
 /// What the rows of a segment have in one field, by the field's kind.
-#[derive(Drop)]
 pub enum Column {
     /// The words of each row, as the rows of each word: a text field is searched, and never sorted by or counted.
     Text(Terms),
@@ -142,4 +160,15 @@ pub enum Column {
     Number(Numbers),
     /// The labels of each row of a facet field.
     Facet(Labels),
+}
+
+impl Drop for Column {
+    fn drop(self) {
+        match self {
+            Column::Text(it) => drop(it),
+            Column::Keyword(it) => drop(it),
+            Column::Number(it) => drop(it),
+            Column::Facet(it) => drop(it),
+        }
+    }
 }

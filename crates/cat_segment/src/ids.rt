@@ -18,7 +18,6 @@ use std::marker::Model;
 /// document).
 ///
 /// Contracts see it as the list of the rows' ids.
-#[derive(Drop)]
 pub(crate) struct Ids {
     ids: Vec<Text>,
     // The rows in byte order of their ids.
@@ -38,6 +37,15 @@ impl Model for Ids {
     ghost view = { λ i. i.ids.items };
 
     ghost invariant = { λ i. IsIndex i.ids.items i.by_id.items × IsFilter i.ids.items i.filter };
+}
+
+impl Drop for Ids {
+    fn drop(self) {
+        let Ids { ids, by_id, filter } = self;
+        drop(ids);
+        drop(by_id);
+        drop(filter);
+    }
 }
 
 /// The id of the row, and the empty text where there is no such row.

@@ -9,7 +9,6 @@ use std::marker::Model;
 /// Which rows of a segment are live, where the others are deleted (Lucene: the `liveDocs` of a segment). It is kept
 /// beside the segment, which never changes; readers of one view share it, and a row that is killed later is killed in
 /// a copy.
-#[derive(Drop)]
 pub struct Live {
     rows: RowSet,
 }
@@ -20,6 +19,13 @@ impl Model for Live {
     ghost Value = { List Bool };
 
     ghost view = { λ l. l.rows };
+}
+
+impl Drop for Live {
+    fn drop(self) {
+        let Live { rows } = self;
+        drop(rows);
+    }
 }
 
 impl Live {

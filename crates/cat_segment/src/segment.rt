@@ -36,7 +36,6 @@ pub struct Row<'a> {
 /// segment, whose live documents are kept beside it).
 ///
 /// The texts that the items came as are kept elsewhere; a segment knows their lengths.
-#[derive(Drop)]
 pub struct Segment {
     number: SegNo,
     schema: Schema,
@@ -57,6 +56,24 @@ impl Model for Segment {
     ghost view = { λ s. record { number = s.number; schema = s.schema; rows = rows_of (body_of s) } };
 
     ghost invariant = { λ s. IsBody (body_of s) };
+}
+
+impl Drop for Segment {
+    fn drop(self) {
+        let Segment {
+            number: _,
+            schema,
+            numbers,
+            ids,
+            sources,
+            columns,
+        } = self;
+        drop(schema);
+        drop(numbers);
+        drop(ids);
+        drop(sources);
+        drop(columns);
+    }
 }
 
 // How many of the numbers, which rise, are up to this one.

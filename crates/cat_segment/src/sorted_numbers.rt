@@ -48,13 +48,25 @@ fn run_ends(alloc: Global, column: &NumberColumn, rows: &[u32]) -> Result<RowSet
 }
 
 /// The number of each row, with all rows in order, the least number first.
-#[derive(Drop)]
 pub(crate) struct SortedNumbers {
     pub(crate) values: NumberColumn,
     pub(crate) rising: Vec<u32>,
     // The places behind which a row with another number stands.
     ends: RowSet,
     ghost told: { AreRunEnds values rising.items ends },
+}
+
+impl Drop for SortedNumbers {
+    fn drop(self) {
+        let SortedNumbers {
+            values,
+            rising,
+            ends,
+        } = self;
+        drop(values);
+        drop(rising);
+        drop(ends);
+    }
 }
 
 impl SortedNumbers {

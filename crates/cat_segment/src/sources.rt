@@ -7,7 +7,6 @@ use std::marker::Model;
 /// The lengths of the texts that the rows' items came as, in bytes, held as where each text ends among them all.
 ///
 /// Contracts see it as the list of the lengths.
-#[derive(Drop)]
 pub(crate) struct Sources {
     // Where the text of each row ends; it begins where that of the row before it ends.
     ends: Vec<u32>,
@@ -22,6 +21,13 @@ impl Model for Sources {
     ghost view = { λ s. lengths_between 0 s.ends.items };
 
     ghost invariant = { λ s. Rise 0 s.ends.items };
+}
+
+impl Drop for Sources {
+    fn drop(self) {
+        let Sources { ends } = self;
+        drop(ends);
+    }
 }
 
 impl Sources {
