@@ -10,7 +10,7 @@ use std::marker::Model;
 /// a segment.
 ///
 /// Contracts see it as one truth value for each row.
-#[derive(Debug, Drop)]
+#[derive(Debug)]
 pub struct DocSet {
     rows: RowSet,
 }
@@ -21,6 +21,13 @@ impl Model for DocSet {
     ghost Value = { List Bool };
 
     ghost view = { λ s. s.rows };
+}
+
+impl Drop for DocSet {
+    fn drop(self) {
+        let DocSet { rows } = self;
+        drop(rows);
+    }
 }
 
 impl DocSet {
@@ -72,7 +79,8 @@ impl DocSet {
     pub fn into_rows(self) -> RowSet
         ensures { result ≡ self }
     {
-        self.rows
+        let DocSet { rows } = self;
+        rows
     }
 
     /// An equal set in memory of its own.

@@ -17,7 +17,7 @@ pub(crate) enum Sign {
 }
 
 /// What is asked of a field. The end of a range that is `None` is open; both ends are part of the range.
-#[derive(Debug, Drop)]
+#[derive(Debug)]
 pub(crate) enum Test {
     /// The text has the word, as by Lucene's `TermQuery`.
     Word(Text),
@@ -37,6 +37,25 @@ pub(crate) enum Test {
     Label(Text),
     /// The facet has a label that begins so.
     LabelPrefix(Text),
+}
+
+impl Drop for Test {
+    fn drop(self) {
+        match self {
+            Test::Word(it) => drop(it),
+            Test::WordPrefix(it) => drop(it),
+            Test::Keyword(it) => drop(it),
+            Test::KeywordPrefix(it) => drop(it),
+            Test::KeywordRange(a, b) => {
+                drop(a);
+                drop(b);
+            }
+            Test::Number(_) => {}
+            Test::NumberRange(_, _) => {}
+            Test::Label(it) => drop(it),
+            Test::LabelPrefix(it) => drop(it),
+        }
+    }
 }
 
 /// What a clause asks.
@@ -61,9 +80,16 @@ pub(crate) struct Clause {
 
 /// A query: Lucene's `BooleanQuery`, without scores. Contracts see it as the tree of its clauses, `query_of`; equality
 /// and hashes go by the tree.
-#[derive(Debug, Drop)]
+#[derive(Debug)]
 pub struct Query {
     pub(crate) clauses: Vec<Clause>,
+}
+
+impl Drop for Query {
+    fn drop(self) {
+        let Query { clauses } = self;
+        drop(clauses);
+    }
 }
 
 impl Query {
