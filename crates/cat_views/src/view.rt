@@ -23,7 +23,6 @@ use std::sync::Arc;
 
 /// A segment of a view, and which of its rows are live (Lucene: a `LeafReader`, by its `LeafReaderContext`, with its
 /// `liveDocs`). Both are shared: a copy of a leaf counts one more user of each.
-#[derive(Drop)]
 pub struct Leaf {
     segment: Arc<Segment>,
     live: Arc<Live>,
@@ -41,6 +40,18 @@ impl Model for Leaf {
     ghost view = { λ l. record { segment = arc_value l.segment; live = arc_value l.live } };
 
     ghost invariant = { λ l. (length (arc_value l.live) ≡ length (arc_value l.segment).rows) × (l.count ≡ count_by (λ b. b) (arc_value l.live)) };
+}
+
+impl Drop for Leaf {
+    fn drop(self) {
+        let Leaf {
+            segment,
+            live,
+            count: _,
+        } = self;
+        drop(segment);
+        drop(live);
+    }
 }
 
 impl Leaf {
@@ -141,7 +152,6 @@ impl Leaf {
 
 /// What a searcher sees of the catalogue: segments with their live rows, under the number of writes that they take in
 /// (Lucene: a `DirectoryReader`, as an `IndexSearcher` is made over it). It never changes, whatever is written later.
-#[derive(Drop)]
 pub struct View {
     schema: Arc<Schema>,
     leaves: Arc<Vec<Leaf>>,
@@ -157,6 +167,18 @@ impl Model for View {
     ghost view = { λ v. record { schema = arc_value v.schema; leaves = (arc_value v.leaves).items; token = v.token } };
 
     ghost invariant = { λ v. model.IsView (record { schema = arc_value v.schema; leaves = (arc_value v.leaves).items; token = v.token }) };
+}
+
+impl Drop for View {
+    fn drop(self) {
+        let View {
+            schema,
+            leaves,
+            token: _,
+        } = self;
+        drop(schema);
+        drop(leaves);
+    }
 }
 
 impl View {
