@@ -11,7 +11,6 @@ use std::sync::Arc;
 
 /// A segment that is merged, and which of its rows are live when the merge begins (Lucene: a `SegmentReader` that
 /// `IndexWriter.mergeMiddle` opens, with its `liveDocs`). Both are shared.
-#[derive(Drop)]
 pub struct Input {
     segment: Arc<Segment>,
     live: Arc<Live>,
@@ -27,6 +26,14 @@ impl Model for Input {
     ghost view = { λ i. record { segment = arc_value i.segment; live = arc_value i.live } };
 
     ghost invariant = { λ i. length (arc_value i.live) ≡ length (arc_value i.segment).rows };
+}
+
+impl Drop for Input {
+    fn drop(self) {
+        let Input { segment, live } = self;
+        drop(segment);
+        drop(live);
+    }
 }
 
 impl Input {

@@ -2,8 +2,8 @@
 ghost use Rattle.std.specs.Prelude.{◌≡◌, ◌≢◌, ◌+◌, ◌-◌, ◌++◌, ◌≤◌, ◌<◌, ℕ, List, true, false, min, map, take, length, [], IfOk, OnOk, OnErr, MatchOption};
 ghost use Rattle.std.specs.List.{flat_map};
 ghost use Rattle.cat_base.specs.declared.refusal.Refusal.TheVariants.{Damaged, Device, Memory};
-ghost use Rattle.cat_directory.specs.Devices.{NoMore, ReadingCount};
-ghost use Rattle.cat_directory.specs.declared.name.FileName.{FileName};
+ghost use Rattle.cat_directory.specs.Devices.{ReadingCount};
+ghost use Rattle.cat_directory.specs.Frames.{OnlyReads};
 ghost use Rattle.cat_model.specs.Layout.{head_of};
 ghost use Rattle.cat_model.specs.Limits.{step_limit};
 ghost use Rattle.cat_model.specs.Merged.{rows_of_all, rows_kept, records_kept, merged_leaf, AreDeletedFrom};
@@ -33,7 +33,6 @@ use std::alloc::{AllocError, Global};
 use std::marker::Model;
 
 /// A merge of segments in the making, step by step (Lucene: `SegmentMerger`, for an `OneMerge`).
-#[derive(Drop)]
 pub struct Merge {
     number: SegNo,
     schema: Schema,
@@ -58,6 +57,25 @@ impl Model for Merge {
     ghost view = { λ m. record { number = m.number; schema = m.schema; inputs = m.inputs.items; passed = m.passed } };
 
     ghost invariant = { λ m. IsMergeWalk m.number m.schema m.inputs.items m.total m.passed m.place m.kept.items m.parts };
+}
+
+impl Drop for Merge {
+    fn drop(self) {
+        let Merge {
+            number: _,
+            schema,
+            inputs,
+            total: _,
+            passed: _,
+            place: _,
+            kept,
+            parts,
+        } = self;
+        drop(schema);
+        drop(inputs);
+        drop(kept);
+        drop(parts);
+    }
 }
 
 /// Keeps the row of the place, if it was live at the beginning, and adds where its source stands.
@@ -195,9 +213,7 @@ impl Merge {
         ensures due { result ≡ Memory → AreJudged (S.bytes shelf.old) self.now.inputs self.now.passed
             (self.now.passed + min step_limit (length (rows_of_all self.now.inputs) - self.now.passed)) false }
         ensures device { result ≡ Device → S.can_fail shelf.old }
-        ensures same { (q : FileName) → S.bytes shelf.new q ≡ S.bytes shelf.old q }
-        ensures crash { (q : FileName) → NoMore (S.may_leave shelf.old q) (S.may_leave shelf.new q) }
-        ensures can { S.can_fail shelf.new → S.can_fail shelf.old }
+        ensures frame { OnlyReads S.bytes S.may_leave S.can_fail shelf.old shelf.new }
         ensures counted { ReadingCount (S.fault_count shelf.old) (S.fault_count shelf.new) result }
     {
         let count = self.rows_left().min(MAX_STEP_ROWS);

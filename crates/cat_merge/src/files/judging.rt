@@ -2,7 +2,8 @@
 //! damage.
 ghost use Rattle.std.specs.Prelude.{◌≡◌, ◌↔◌, ◌⊎◌, ◌+◌, ◌<◌, ◌≤◌, true, false, length, IsTrue, IfOk, IfErr, All, Any};
 ghost use Rattle.cat_base.specs.declared.refusal.Refusal.TheVariants.{Damaged, Device, Memory};
-ghost use Rattle.cat_directory.specs.Devices.{CountsReading, NoMore, ReadingCount};
+ghost use Rattle.cat_directory.specs.Devices.{CountsReading, ReadingCount};
+ghost use Rattle.cat_directory.specs.Frames.{OnlyReads};
 ghost use Rattle.cat_model.specs.Merged.{rows_of_all};
 ghost use Rattle.cat_merge.specs.Places.{passed_at, IsPlace, IsRowPlace};
 ghost use Rattle.cat_merge.specs.Walk.{AreInputs};
@@ -29,9 +30,7 @@ fn lacks_range<S: Shelf>(shelf: &mut S, range: &SourceRange) -> Result<bool, Ref
     ensures cut { IfOk result (λ b. b ≡ true → IsCutOff (S.bytes shelf.old) range.now) }
     ensures reached { IfOk result (λ b. b ≡ false → MayReachRange (S.bytes shelf.old) range.now) }
     ensures device { IfErr result (λ e. (e ≡ Device) × S.can_fail shelf.old) }
-    ensures same { (q : FileName) → S.bytes shelf.new q ≡ S.bytes shelf.old q }
-    ensures crash { (q : FileName) → NoMore (S.may_leave shelf.old q) (S.may_leave shelf.new q) }
-    ensures can { S.can_fail shelf.new → S.can_fail shelf.old }
+    ensures frame { OnlyReads S.bytes S.may_leave S.can_fail shelf.old shelf.new }
     ensures counted { CountsReading (S.fault_count shelf.old) (S.fault_count shelf.new) result }
 {
     match shelf.size(FileName::Source(range.segment)) {
@@ -46,9 +45,7 @@ fn lacks_some<S: Shelf>(shelf: &mut S, ranges: &[SourceRange]) -> Result<bool, R
     ensures cut { IfOk result (λ b. b ≡ true → Any (IsCutOff (S.bytes shelf.old)) ranges.now) }
     ensures reached { IfOk result (λ b. b ≡ false → All (MayReachRange (S.bytes shelf.old)) ranges.now) }
     ensures device { IfErr result (λ e. (e ≡ Device) × S.can_fail shelf.old) }
-    ensures same { (q : FileName) → S.bytes shelf.new q ≡ S.bytes shelf.old q }
-    ensures crash { (q : FileName) → NoMore (S.may_leave shelf.old q) (S.may_leave shelf.new q) }
-    ensures can { S.can_fail shelf.new → S.can_fail shelf.old }
+    ensures frame { OnlyReads S.bytes S.may_leave S.can_fail shelf.old shelf.new }
     ensures counted { CountsReading (S.fault_count shelf.old) (S.fault_count shelf.new) result }
 {
     for range in ranges {
@@ -66,9 +63,7 @@ pub(crate) fn why_unread<S: Shelf>(shelf: &mut S, ranges: &[SourceRange]) -> Ref
     ensures damaged { result ≡ Damaged → Any (IsCutOff (S.bytes shelf.old)) ranges.now }
     ensures due { result ≡ Memory → All (MayReachRange (S.bytes shelf.old)) ranges.now }
     ensures device { result ≡ Device → S.can_fail shelf.old }
-    ensures same { (q : FileName) → S.bytes shelf.new q ≡ S.bytes shelf.old q }
-    ensures crash { (q : FileName) → NoMore (S.may_leave shelf.old q) (S.may_leave shelf.new q) }
-    ensures can { S.can_fail shelf.new → S.can_fail shelf.old }
+    ensures frame { OnlyReads S.bytes S.may_leave S.can_fail shelf.old shelf.new }
     ensures counted { ReadingCount (S.fault_count shelf.old) (S.fault_count shelf.new) result }
 {
     match lacks_some(shelf, ranges) {
@@ -90,9 +85,7 @@ fn is_lacking<S: Shelf>(
     ensures reached { IfOk result (λ b. b ≡ false
         → (before ≡ false) × All (MayReachRange (S.bytes shelf.old)) (ranges_at inputs.now place)) }
     ensures device { IfErr result (λ e. (e ≡ Device) × S.can_fail shelf.old) }
-    ensures same { (q : FileName) → S.bytes shelf.new q ≡ S.bytes shelf.old q }
-    ensures crash { (q : FileName) → NoMore (S.may_leave shelf.old q) (S.may_leave shelf.new q) }
-    ensures can { S.can_fail shelf.new → S.can_fail shelf.old }
+    ensures frame { OnlyReads S.bytes S.may_leave S.can_fail shelf.old shelf.new }
     ensures counted { CountsReading (S.fault_count shelf.old) (S.fault_count shelf.new) result }
 {
     if before {
@@ -124,9 +117,7 @@ pub(crate) fn lacks_sources<S: Shelf>(
     ensures judged { IfOk result
         (AreJudged (S.bytes shelf.old) inputs.now (passed_at inputs.now from) (passed_at inputs.now from + count)) }
     ensures device { IfErr result (λ e. (e ≡ Device) × S.can_fail shelf.old) }
-    ensures same { (q : FileName) → S.bytes shelf.new q ≡ S.bytes shelf.old q }
-    ensures crash { (q : FileName) → NoMore (S.may_leave shelf.old q) (S.may_leave shelf.new q) }
-    ensures can { S.can_fail shelf.new → S.can_fail shelf.old }
+    ensures frame { OnlyReads S.bytes S.may_leave S.can_fail shelf.old shelf.new }
     ensures counted { CountsReading (S.fault_count shelf.old) (S.fault_count shelf.new) result }
 {
     let mut place = from;

@@ -3,7 +3,8 @@ ghost use Rattle.std.specs.Prelude.{◌≡◌, ◌≢◌, ◌⊎◌, ◌+◌, �
 ghost use Rattle.std.specs.List.{flat_map};
 ghost use Rattle.std.specs.Option.{option_to_list};
 ghost use Rattle.cat_base.specs.declared.refusal.Refusal.TheVariants.{Device, Memory, Damaged};
-ghost use Rattle.cat_directory.specs.Devices.{CountsReading, CountsWriting, NoMore, emptied, told_after};
+ghost use Rattle.cat_directory.specs.Devices.{CountsReading, NoMore, emptied, told_after};
+ghost use Rattle.cat_directory.specs.Frames.{FailsReading, FailsWriting, OnlyReads};
 ghost use Rattle.cat_ledger_laws.specs.shape.MergeLaws.{CopiesOn};
 ghost use Rattle.cat_ledger_laws.specs.shape.Steps.{passed_on};
 ghost use Rattle.cat_ledger_laws.specs.shape.Ties.{IsTold, TouchesNothing, TouchesOnly};
@@ -33,7 +34,6 @@ use std::marker::Model;
 ///
 /// It writes two files, that of the sources of the new segment step by step, and at its end that of the segment. What it has
 /// written of them where it is refused, or given up, is of no use.
-#[derive(Drop)]
 pub struct MergeInMaking {
     alloc: Global,
     number: SegNo,
@@ -56,6 +56,19 @@ impl Model for MergeInMaking {
     ghost invariant = { λ m. AreOneMerge m.number m.count m.merge };
 }
 
+impl Drop for MergeInMaking {
+    fn drop(self) {
+        let MergeInMaking {
+            alloc: _,
+            number: _,
+            index: _,
+            count: _,
+            merge,
+        } = self;
+        drop(merge);
+    }
+}
+
 /// Passes the rows of the next step, and answers where their sources stand. Want of memory hides none that isn't in its file.
 fn next_ranges<S: Shelf>(
     merge: &mut Merge,
@@ -72,11 +85,8 @@ fn next_ranges<S: Shelf>(
         (merge.old.passed + min step_limit (length (rows_of_all merge.old.inputs) - merge.old.passed)) true) }
     ensures due { IfErr result (λ e. e ≡ Memory → AreJudged (S.bytes shelf.old) merge.old.inputs merge.old.passed
         (merge.old.passed + min step_limit (length (rows_of_all merge.old.inputs) - merge.old.passed)) false) }
-    ensures device { IfErr result (λ e. e ≡ Device → S.can_fail shelf.old) }
-    ensures same { (q : FileName) → S.bytes shelf.new q ≡ S.bytes shelf.old q }
-    ensures crash { (q : FileName) → NoMore (S.may_leave shelf.old q) (S.may_leave shelf.new q) }
-    ensures can { S.can_fail shelf.new → S.can_fail shelf.old }
-    ensures counted { CountsReading (S.fault_count shelf.old) (S.fault_count shelf.new) result }
+    ensures frame { OnlyReads S.bytes S.may_leave S.can_fail shelf.old shelf.new }
+    ensures fails { FailsReading S.can_fail S.fault_count shelf.old shelf.new result }
 {
     match merge.copy_step(alloc) {
         Ok(ranges) => Ok(ranges),
@@ -122,9 +132,7 @@ impl MergeInMaking {
         ensures memory { IfErr result (λ e. e ≡ Memory → TouchesNothing (D.bytes device.old) (D.bytes device.new)) }
         ensures unwritten { IfErr result (λ e. e ≡ Memory
             → (q : FileName) → NoMore (D.may_leave device.old q) (D.may_leave device.new q)) }
-        ensures device { IfErr result (λ e. e ≡ Device → D.can_fail device.old) }
-        ensures can { D.can_fail device.new → D.can_fail device.old }
-        ensures counted { CountsWriting (D.fault_count device.old) (D.fault_count device.new) result }
+        ensures fails { FailsWriting D.can_fail D.fault_count device.old device.new result }
     {
         device.create(self.alloc, FileName::Source(self.number))?;
         Ok(())
@@ -204,6 +212,13 @@ impl MergeInMaking {
         ensures ok { IfOk result (λ o. option_to_list o ≡ merged_leaves self.shape.number self.schema self.shape.inputs window.now) }
         ensures numbered { IsFileNumber self.shape.number }
     {
-        settled_leaf(self.alloc, self.merge, window)
+        let MergeInMaking {
+            alloc,
+            number: _,
+            index: _,
+            count: _,
+            merge,
+        } = self;
+        settled_leaf(alloc, merge, window)
     }
 }

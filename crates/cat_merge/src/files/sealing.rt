@@ -1,8 +1,8 @@
 //! The segment that a merge makes, and its file.
-ghost use Rattle.std.specs.Prelude.{◌≡◌, ◌≢◌, Some, None, length, OnOk, IfOk, IfErr};
+ghost use Rattle.std.specs.Prelude.{◌≡◌, ◌≢◌, Some, None, length, OnOk, IfOk};
 ghost use Rattle.std.specs.Option.{option_to_list};
-ghost use Rattle.cat_base.specs.declared.refusal.Refusal.TheVariants.{Device};
-ghost use Rattle.cat_directory.specs.Devices.{CountsWriting, NoMore};
+ghost use Rattle.cat_directory.specs.Devices.{NoMore};
+ghost use Rattle.cat_directory.specs.Frames.{FailsWriting};
 ghost use Rattle.cat_ledger_laws.specs.shape.Ties.{TellsBytes};
 ghost use Rattle.cat_model.specs.Files.{IsFileNumber};
 ghost use Rattle.cat_model.specs.Layout.{SpellsSegment};
@@ -51,9 +51,7 @@ pub fn write_segment<D: Directory>(
     ensures crash { (q : FileName) → q ≢ FileName.Segment segment.now.number
         → NoMore (D.may_leave device.old q) (D.may_leave device.new q) }
     ensures ok { OnOk result (TellsBytes (D.bytes device.new) (FileName.Segment segment.now.number) (λ bytes. SpellsSegment bytes segment.now)) }
-    ensures device { IfErr result (λ e. e ≡ Device → D.can_fail device.old) }
-    ensures can { D.can_fail device.new → D.can_fail device.old }
-    ensures counted { CountsWriting (D.fault_count device.old) (D.fault_count device.new) result }
+    ensures fails { FailsWriting D.can_fail D.fault_count device.old device.new result }
 {
     let bytes = encode_seg(alloc, segment)?;
     write_file(device, alloc, FileName::Segment(segment.number()), &bytes)?;

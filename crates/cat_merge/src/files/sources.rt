@@ -3,6 +3,7 @@ ghost use Rattle.std.specs.Prelude.{◌≡◌, ◌≢◌, ◌⊎◌, Some, None,
 ghost use Rattle.std.specs.List.{flat_map};
 ghost use Rattle.cat_base.specs.declared.refusal.Refusal.TheVariants.{Damaged, Device, Memory};
 ghost use Rattle.cat_directory.specs.Devices.{CountsReading, NoMore};
+ghost use Rattle.cat_directory.specs.Frames.{FailsReading, OnlyReads};
 ghost use Rattle.cat_merge.specs.Copied.{bytes_in};
 ghost use Rattle.cat_merge.specs.files.Sources.{AreAppended, IsCutOff, MayReachRange, TellsAll, sources_told};
 
@@ -22,11 +23,8 @@ fn read_range<S: Shelf>(
     ensures len { IfOk result (λ v. length v.items ≡ range.now.len) }
     ensures damaged { IfErr result (λ e. e ≡ Damaged → IsCutOff (S.bytes shelf.old) range.now) }
     ensures due { IfErr result (λ e. e ≡ Memory → MayReachRange (S.bytes shelf.old) range.now) }
-    ensures device { IfErr result (λ e. e ≡ Device → S.can_fail shelf.old) }
-    ensures same { (q : FileName) → S.bytes shelf.new q ≡ S.bytes shelf.old q }
-    ensures crash { (q : FileName) → NoMore (S.may_leave shelf.old q) (S.may_leave shelf.new q) }
-    ensures can { S.can_fail shelf.new → S.can_fail shelf.old }
-    ensures counted { CountsReading (S.fault_count shelf.old) (S.fault_count shelf.new) result }
+    ensures frame { OnlyReads S.bytes S.may_leave S.can_fail shelf.old shelf.new }
+    ensures fails { FailsReading S.can_fail S.fault_count shelf.old shelf.new result }
 {
     let name = FileName::Source(range.segment);
     let bytes = shelf.read(alloc, name, range.offset, range.len)?;
@@ -43,11 +41,8 @@ fn read_ranges<S: Shelf>(
         → v.items ≡ flat_map (bytes_in (sources_told (S.bytes shelf.old))) ranges.now) }
     ensures len { IfOk result (λ v. length v.items ≡ sum (map (λ r. r.len) ranges.now)) }
     ensures damaged { IfErr result (λ e. e ≡ Damaged → Any (IsCutOff (S.bytes shelf.old)) ranges.now) }
-    ensures device { IfErr result (λ e. e ≡ Device → S.can_fail shelf.old) }
-    ensures same { (q : FileName) → S.bytes shelf.new q ≡ S.bytes shelf.old q }
-    ensures crash { (q : FileName) → NoMore (S.may_leave shelf.old q) (S.may_leave shelf.new q) }
-    ensures can { S.can_fail shelf.new → S.can_fail shelf.old }
-    ensures counted { CountsReading (S.fault_count shelf.old) (S.fault_count shelf.new) result }
+    ensures frame { OnlyReads S.bytes S.may_leave S.can_fail shelf.old shelf.new }
+    ensures fails { FailsReading S.can_fail S.fault_count shelf.old shelf.new result }
 {
     let mut bytes = Vec::new(alloc);
     for range in ranges {

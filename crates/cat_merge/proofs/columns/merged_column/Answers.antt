@@ -8,6 +8,6 @@ use Rattle.cat_merge.proofs.columns.merged_column.Goals as goal
 
 pub returns-in_ok-merged_terms-in-Text : goal.returns-in_ok-merged_terms-in-Text
 returns-in_ok-merged_terms-in-Text c =
-    words_column (field_kind_of c.args.kind) c.args.index (kept_rows c.args.inputs.now) c.in_ok-merged_terms-in-Text.field-0 c.word_column-in-Text.result (ap field_kind_of c.in-Text.is)
+    words_column (field_kind_of c.args.kind) c.args.index (kept_rows c.args.inputs.now) c.in_ok-merged_terms-in-Text.field-0 c.word_column.result (ap field_kind_of c.in-Text.is)
     (c.in_ok-merged_terms-in-Text.ensures.ok Kind.text (subst (λ k. All (HasField k c.args.index) c.args.inputs.now) (ap field_kind_of c.in-Text.is) c.requires.fields))
-    c.word_column-in-Text.ensures.cut c.word_column-in-Text.ensures.laid c.word_column-in-Text.ensures.few
+    c.word_column.ensures.cut c.word_column.ensures.laid c.word_column.ensures.few

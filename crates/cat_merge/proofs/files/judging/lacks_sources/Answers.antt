@@ -3,6 +3,7 @@ use Rattle.cat_base.specs.declared.refusal.Refusal.{Refusal}
 use Rattle.cat_base.specs.declared.refusal.Refusal.TheVariants.{Device}
 use Rattle.cat_merge.specs.Places.{passed_at, IsRowPlace}
 use Rattle.cat_merge.specs.files.Sources.{AreJudged}
+use Rattle.cat_merge.proofs.Frames.{reads_none, reads_on}
 use Rattle.cat_merge.proofs.Passed.{row_place}
 use Rattle.cat_merge.proofs.files.Judged.{judged_more, none_judged}
 use Rattle.cat_merge.proofs.files.Ranges.{passed}
@@ -13,9 +14,7 @@ loop-init g c = record {
   place = c.requires.place;
   passed = omega arith;
   judged = none_judged (g.S.Holder.bytes c.args.shelf.now) c.args.inputs.now (passed_at c.args.inputs.now c.args.from);
-  same = λ q. refl;
-  crash = λ q e left. left;
-  can = λ fails. fails;
+  frame = reads_none;
   count = refl;
 }
 
@@ -28,7 +27,7 @@ next-place-requires-clause-place g c = row_place c.args.inputs.now c.loop.place 
 pub returns-in_err-lacking-clause-device : goal.returns-in_err-lacking-clause-device
 returns-in_err-lacking-clause-device g c =
     passed (λ (e : Refusal). (e ≡ Device) × g.S.Holder.can_fail c.args.shelf.now) _ _ c.from_residual.ensures
-    (c.in_err-lacking.ensures.device.0, c.loop.invariant.can c.in_err-lacking.ensures.device.1)
+    (c.in_err-lacking.ensures.device.0, c.loop.invariant.frame.can c.in_err-lacking.ensures.device.1)
 
 pub loop-preserved : goal.loop-preserved
 loop-preserved g c =
@@ -38,10 +37,8 @@ loop-preserved g c =
       place = c.next-place.ensures.place;
       passed = c.next-place.ensures.passed ∙ omega (arith, c.loop.invariant.passed);
       judged = judged_more (g.S.Holder.bytes c.args.shelf.now) (g.S.Holder.bytes c.loop.shelf) c.args.inputs.now (passed_at c.args.inputs.now c.args.from) c.loop.place c.next-place.result
-          c.loop.lacking c.in_ok-lacking.lacking c.loop.invariant.same c.requires.inputs is c.next-place.ensures.passed c.loop.invariant.judged c.in_ok-lacking.ensures.cut c.in_ok-lacking.ensures.reached;
-      same = λ q. c.in_ok-lacking.ensures.same q ∙ c.loop.invariant.same q;
-      crash = λ q e left. c.loop.invariant.crash q e (c.in_ok-lacking.ensures.crash q e left);
-      can = λ fails. c.loop.invariant.can (c.in_ok-lacking.ensures.can fails);
+          c.loop.lacking c.in_ok-lacking.lacking c.loop.invariant.frame.same c.requires.inputs is c.next-place.ensures.passed c.loop.invariant.judged c.in_ok-lacking.ensures.cut c.in_ok-lacking.ensures.reached;
+      frame = reads_on c.loop.invariant.frame c.in_ok-lacking.ensures.frame;
       count = search rules;
     }
 

@@ -5,6 +5,7 @@ use Rattle.cat_base.specs.declared.refusal.Refusal.TheVariants.{Damaged}
 use Rattle.cat_merge.specs.declared.sources.SourceRange.{SourceRange}
 use Rattle.cat_model.specs.Text.{Text}
 use Rattle.cat_merge.specs.files.Sources.{IsCutOff}
+use Rattle.cat_merge.proofs.Frames.{reads_on}
 use Rattle.cat_merge.proofs.files.Ranges.{passed, read_more, lens_more, some_cut_off, no_range, at_index}
 use Rattle.cat_merge.proofs.files.sources.read_ranges.Goals as goal
 
@@ -12,7 +13,7 @@ pub returns-in_err-more-clause-damaged : goal.returns-in_err-more-clause-damaged
 returns-in_err-more-clause-damaged g c =
     passed (λ (e : Refusal). e ≡ Damaged → Any (IsCutOff (g.S.Holder.bytes c.args.shelf.now)) c.args.ranges.now) _ _ c.from_residual.ensures
     (λ is. some_cut_off (g.S.Holder.bytes c.args.shelf.now) (g.S.Holder.bytes c.loop-range.shelf) c.args.ranges.now c.loop-range.range-index (get_or c.args.ranges.now c.loop-range.range-index no_range)
-    c.loop-range.invariant.same c.loop-range-test.true (at_index c.args.ranges.now c.loop-range.range-index no_range c.loop-range-test.true) (c.in_err-more.ensures.damaged is))
+    c.loop-range.invariant.frame.same c.loop-range-test.true (at_index c.args.ranges.now c.loop-range.range-index no_range c.loop-range-test.true) (c.in_err-more.ensures.damaged is))
 
 pub loop-range-preserved : goal.loop-range-preserved
 loop-range-preserved g c =
@@ -22,11 +23,9 @@ loop-range-preserved g c =
     let at : range ≡ get_or c.args.ranges.now c.loop-range.range-index range = at_index c.args.ranges.now c.loop-range.range-index no_range c.loop-range-test.true in
     record {
       read = read_more (g.S.Holder.bytes c.args.shelf.now) (g.S.Holder.bytes c.loop-range.shelf) c.args.ranges.now c.loop-range.range-index range c.loop-range.bytes.items c.in_ok-more.more.items
-          c.extend_from_slice.new.self.items c.loop-range.invariant.same c.loop-range-test.true at c.loop-range.invariant.read c.in_ok-more.ensures.ok joined;
+          c.extend_from_slice.new.self.items c.loop-range.invariant.frame.same c.loop-range-test.true at c.loop-range.invariant.read c.in_ok-more.ensures.ok joined;
       long = lens_more c.args.ranges.now c.loop-range.range-index range c.loop-range.bytes.items c.in_ok-more.more.items c.extend_from_slice.new.self.items
           c.loop-range-test.true at c.loop-range.invariant.long c.in_ok-more.ensures.len joined;
-      same = λ q. c.in_ok-more.ensures.same q ∙ c.loop-range.invariant.same q;
-      crash = λ q e left. c.loop-range.invariant.crash q e (c.in_ok-more.ensures.crash q e left);
-      can = λ fails. c.loop-range.invariant.can (c.in_ok-more.ensures.can fails);
+      frame = reads_on c.loop-range.invariant.frame c.in_ok-more.ensures.frame;
       count = search rules;
     }

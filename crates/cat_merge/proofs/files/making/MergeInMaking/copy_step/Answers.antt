@@ -24,8 +24,8 @@ returns-clause-copied g c =
     let appended : AreAppended c.deref.result.now (file.Source merge.number) told told' =
     subst (λ (n : ℕ). AreAppended c.deref.result.now (file.Source n) told told') c.self.invariant.same
     (subst (λ (t : ToldFiles). AreAppended c.deref.result.now (file.Source c.self.inside.number) t told')
-    (as_one told (g.D.Holder.bytes c.next_ranges.new.shelf) c.in_ok-ranges.ensures.same) c.in_ok-append_ranges.ensures.ok) in
-    let others = subst (λ (n : ℕ). TouchesOnly (Name.source n ∷ []) told told') c.self.invariant.same (touches_one told told' (file.Source c.self.inside.number) (λ q other. c.in_ok-append_ranges.ensures.others q other ∙ c.in_ok-ranges.ensures.same q)) in
+    (as_one told (g.D.Holder.bytes c.next_ranges.new.shelf) c.in_ok-ranges.ensures.frame.same) c.in_ok-append_ranges.ensures.ok) in
+    let others = subst (λ (n : ℕ). TouchesOnly (Name.source n ∷ []) told told') c.self.invariant.same (touches_one told told' (file.Source c.self.inside.number) (λ q other. c.in_ok-append_ranges.ensures.others q other ∙ c.in_ok-ranges.ensures.frame.same q)) in
     subst (λ (x : MergingShape). CopiesOn x told told') (ap (λ (x : InMaking). x.shape) c.self.view_is)
     (copies_on m told told' c.deref.result.now (g.met.D.Holder.tells_alike c.args.device.now) others appended
     (names_on merge c.next_ranges.new.merge c.in_ok-ranges.ranges.items c.deref.result.now c.deref.ensures.value c.in_ok-ranges.ensures.ok c.in_ok-ranges.ensures.sources))
@@ -40,7 +40,7 @@ returns-in_err-append_ranges-clause-damaged g c =
     (let lacks : LacksSources m told = record {
       ranges = c.deref.result.now;
       named = names_on merge c.next_ranges.new.merge c.in_ok-ranges.ranges.items c.deref.result.now c.deref.ensures.value c.in_ok-ranges.ensures.ok c.in_ok-ranges.ensures.sources;
-      cut = subst (λ (t : ToldFiles). Any (IsCutOff t) c.deref.result.now) (as_one told (g.D.Holder.bytes c.next_ranges.new.shelf) c.in_ok-ranges.ensures.same) (c.in_err-append_ranges.ensures.damaged is);
+      cut = subst (λ (t : ToldFiles). Any (IsCutOff t) c.deref.result.now) (as_one told (g.D.Holder.bytes c.next_ranges.new.shelf) c.in_ok-ranges.ensures.frame.same) (c.in_err-append_ranges.ensures.damaged is);
     } in lacks))
 
 pub returns-in_err-append_ranges-clause-short : goal.returns-in_err-append_ranges-clause-short
@@ -51,7 +51,7 @@ returns-in_err-append_ranges-clause-short g c =
     passed (λ (e : Refusal). e ≡ Damaged → Any (LacksBytes told) c.args.self.now.shape.inputs) _ _ c.from_residual-in_err-append_ranges.ensures
     (λ is. subst (λ (x : MergingShape). Any (LacksBytes told) x.inputs) (ap (λ (x : InMaking). x.shape) c.self.view_is)
     (some_short told merge.inputs c.deref.result.now within
-    (subst (λ (t : ToldFiles). Any (IsCutOff t) c.deref.result.now) (as_one told (g.D.Holder.bytes c.next_ranges.new.shelf) c.in_ok-ranges.ensures.same) (c.in_err-append_ranges.ensures.damaged is))))
+    (subst (λ (t : ToldFiles). Any (IsCutOff t) c.deref.result.now) (as_one told (g.D.Holder.bytes c.next_ranges.new.shelf) c.in_ok-ranges.ensures.frame.same) (c.in_err-append_ranges.ensures.damaged is))))
 
 pub returns-in_err-append_ranges-clause-due : goal.returns-in_err-append_ranges-clause-due
 returns-in_err-append_ranges-clause-due g c =
@@ -63,7 +63,7 @@ returns-in_err-append_ranges-clause-due g c =
     (let reaches : MayReachSources m told = record {
       ranges = c.deref.result.now;
       named = names_on merge c.next_ranges.new.merge c.in_ok-ranges.ranges.items c.deref.result.now c.deref.ensures.value c.in_ok-ranges.ensures.ok c.in_ok-ranges.ensures.sources;
-      reached = subst (λ (t : ToldFiles). All (MayReachRange t) c.deref.result.now) (as_one told (g.D.Holder.bytes c.next_ranges.new.shelf) c.in_ok-ranges.ensures.same) (c.in_err-append_ranges.ensures.due is);
+      reached = subst (λ (t : ToldFiles). All (MayReachRange t) c.deref.result.now) (as_one told (g.D.Holder.bytes c.next_ranges.new.shelf) c.in_ok-ranges.ensures.frame.same) (c.in_err-append_ranges.ensures.due is);
     } in reaches))
 
 pub returns-in_err-ranges-clause-damaged : goal.returns-in_err-ranges-clause-damaged
