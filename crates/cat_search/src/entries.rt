@@ -58,7 +58,6 @@ impl Entry {
 }
 
 /// The first hits after a mark, and how many hits there are at all (Lucene: `TopFieldDocs`).
-#[derive(Drop)]
 pub struct Page {
     total: usize,
     entries: Vec<Entry>,
@@ -70,6 +69,13 @@ impl Model for Page {
     ghost Value = { model.Page };
 
     ghost view = { λ p. record { total = p.total; entries = p.entries.items } };
+}
+
+impl Drop for Page {
+    fn drop(self) {
+        let Page { total: _, entries } = self;
+        drop(entries);
+    }
 }
 
 impl Page {

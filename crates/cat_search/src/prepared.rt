@@ -29,7 +29,6 @@ use std::sync::Arc;
 ///     let prepared = Prepared::of(&view, Query::parse(view.schema(), alloc, "color:red")?)?;
 ///     let ask = Ask { sort: Sort::Rising("price"), after: None, count: 10 };
 ///     let page = prepared.page(alloc, ask)?;
-#[derive(Drop)]
 pub struct Prepared {
     view: View,
     query: Query,
@@ -52,6 +51,15 @@ impl Model for Prepared {
     ghost view = { λ p. record { view = p.view; query = p.query } };
 
     ghost invariant = { λ p. IfSome p.sets (λ v. AreSets (query_of p.query) p.view.leaves v.items) };
+}
+
+impl Drop for Prepared {
+    fn drop(self) {
+        let Prepared { view, query, sets } = self;
+        drop(view);
+        drop(query);
+        drop(sets);
+    }
 }
 
 impl Prepared {
@@ -102,7 +110,12 @@ impl Prepared {
     pub fn into_query(self) -> Query
         ensures { query_of result ≡ query_of self.query }
     {
-        self.query
+        let Prepared {
+            view: _,
+            query,
+            sets: _,
+        } = self;
+        query
     }
 
     /// The live rows of the leaf of this index in the view that the query matches, as a set of the rows of its segment
