@@ -35,7 +35,6 @@ use std::sync::Arc;
 /// Numbers of segments are never used again, so a set may stay when its segment is gone: no other segment asks for it, and it
 /// goes as the least recently used. Contracts see the cached sets with their keys, the last used first, the noted queries from
 /// the oldest, and the set in the making.
-#[derive(Drop)]
 pub struct Filters {
     alloc: Global,
     cache: FilterCache,
@@ -58,6 +57,20 @@ impl Model for Filters {
     ghost view = { λ f. record { cached = f.cache; noted = map query_of f.noted.items; warming = f.warming } };
 
     ghost invariant = { λ f. (length f.noted.items ≤ model.most_noted) × (model.most_noted ≤ vec_capacity f.noted) };
+}
+
+impl Drop for Filters {
+    fn drop(self) {
+        let Filters {
+            alloc: _,
+            cache,
+            noted,
+            warming,
+        } = self;
+        drop(cache);
+        drop(noted);
+        drop(warming);
+    }
 }
 
 impl Filters {
