@@ -42,7 +42,6 @@ impl FacetCount {
 }
 
 /// How many hits have a label, how many different labels they have, and the first counts (Lucene: a `FacetResult`).
-#[derive(Drop)]
 pub struct Facets {
     matching: usize,
     met: usize,
@@ -55,6 +54,17 @@ impl Model for Facets {
     ghost Value = { model.Facets };
 
     ghost view = { λ f. record { matching = f.matching; met = f.met; counts = f.counts.items } };
+}
+
+impl Drop for Facets {
+    fn drop(self) {
+        let Facets {
+            matching: _,
+            met: _,
+            counts,
+        } = self;
+        drop(counts);
+    }
 }
 
 impl Facets {

@@ -50,7 +50,6 @@ impl KeptState {
 /// here one outlasts a refresh that brought deletes alone.)
 ///
 /// Contracts see the states in the order of their use, the last used last.
-#[derive(Drop)]
 pub struct ReaderStates {
     // There is room for as many as are kept.
     states: Vec<KeptState>,
@@ -66,6 +65,13 @@ impl Model for ReaderStates {
     ghost view = { λ r. r.states.items };
 
     ghost invariant = { λ r. (length r.states.items ≤ most_kept) × (most_kept ≤ vec_capacity r.states) };
+}
+
+impl Drop for ReaderStates {
+    fn drop(self) {
+        let ReaderStates { states } = self;
+        drop(states);
+    }
 }
 
 /// The numbers of the leaves' segments, in order.
