@@ -4,3 +4,4 @@ pub mod Listings
 pub mod Taken
 pub mod Starts
 pub mod Commits
+pub mod Frames

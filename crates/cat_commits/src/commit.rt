@@ -80,7 +80,6 @@ impl ListedSegment {
 /// A commit: what of the catalogue outlives the program (Lucene: `SegmentInfos`, and an `IndexCommit`).
 ///
 /// Contracts see it as what its file says.
-#[derive(Drop)]
 pub struct Commit {
     /// The version of its file. Only the second is written.
     pub version: Version,
@@ -113,4 +112,21 @@ impl Model for Commit {
       schema = c.schema;
       segments = c.segments.items;
     } };
+}
+
+impl Drop for Commit {
+    fn drop(self) {
+        let Commit {
+            version: _,
+            generation: _,
+            token: _,
+            next_segment: _,
+            text,
+            schema,
+            segments,
+        } = self;
+        drop(text);
+        drop(schema);
+        drop(segments);
+    }
 }

@@ -13,7 +13,6 @@ use std::marker::Model;
 /// `SnapshotDeletionPolicy`.)
 ///
 /// Contracts see it as the list of the commits that have some, each with how many.
-#[derive(Drop)]
 pub struct Snapshots {
     counts: HashMap<Generation, u32>,
 }
@@ -28,6 +27,13 @@ impl Model for Snapshots {
     ghost view = { λ s. map taken_in s.counts.entries };
 
     ghost invariant = { λ s. FitLimit s.counts };
+}
+
+impl Drop for Snapshots {
+    fn drop(self) {
+        let Snapshots { counts } = self;
+        drop(counts);
+    }
 }
 
 impl Snapshots {

@@ -1,7 +1,7 @@
 //! A whole file, read.
 ghost use Rattle.std.specs.Prelude.{◌≡◌, ◌≢◌, ◌≤◌, ◌<◌, Some, None, IfOk, IfErr};
-ghost use Rattle.cat_base.specs.declared.refusal.Refusal.TheVariants.{Memory, Device, Damaged};
-ghost use Rattle.cat_directory.specs.Devices.{CountsReading, NoMore};
+ghost use Rattle.cat_base.specs.declared.refusal.Refusal.TheVariants.{Memory, Damaged};
+ghost use Rattle.cat_directory.specs.Frames.{FailsReading, OnlyReads};
 ghost use Rattle.cat_model.specs.Text.{Text};
 ghost use Rattle.cat_ledger_laws.specs.shape.Ties.{IsTold};
 
@@ -26,11 +26,8 @@ pub fn read_file<S: Shelf>(alloc: Global, shelf: &mut S, name: FileName) -> Resu
     ensures ok { IfOk result (λ v. IsTold (S.bytes shelf.old name) (Some v.items)) }
     ensures damaged { IfErr result (λ e. e ≡ Damaged → (bs : Text) → S.bytes shelf.old name ≢ Some (Some bs)) }
     ensures due { IfErr result (λ e. e ≡ Memory → S.bytes shelf.old name ≢ Some None) }
-    ensures device { IfErr result (λ e. e ≡ Device → S.can_fail shelf.old) }
-    ensures same { (q : FileName) → S.bytes shelf.new q ≡ S.bytes shelf.old q }
-    ensures crash { (q : FileName) → NoMore (S.may_leave shelf.old q) (S.may_leave shelf.new q) }
-    ensures can { S.can_fail shelf.new → S.can_fail shelf.old }
-    ensures counted { CountsReading (S.fault_count shelf.old) (S.fault_count shelf.new) result }
+    ensures fails { FailsReading S.can_fail S.fault_count shelf.old shelf.new result }
+    ensures frame { OnlyReads S.bytes S.may_leave S.can_fail shelf.old shelf.new }
 {
     let size = shelf.size(name)?;
     let mut bytes = shelf.read(alloc, name, 0, piece(size))?;

@@ -1,7 +1,7 @@
 //! One listed segment, read from its files.
 ghost use Rattle.std.specs.Prelude.{◌≡◌, ◌≢◌, ◌↔◌, ◌⊎◌, ◌<◌, ◌^◌, Bool, List, length, map, sum, Some, None, IsTrue, OnOk, IfOk, IfErr};
 ghost use Rattle.cat_base.specs.declared.refusal.Refusal.TheVariants.{Device, Damaged, Memory};
-ghost use Rattle.cat_directory.specs.Devices.{CountsReading, NoMore};
+ghost use Rattle.cat_directory.specs.Frames.{FailsReading, OnlyReads};
 ghost use Rattle.cat_model.specs.View as model;
 ghost use Rattle.cat_ledger_laws.specs.model.Opening.{HasSources, HasLiveFile, IsLeafOf};
 ghost use Rattle.cat_commits.specs.reading.Leaf.{IsSegmentReadAs, HasLiveRows};
@@ -46,11 +46,8 @@ fn read_segment<S: Shelf>(
     ensures ok { IfOk result (IsSegmentReadAs (MayHold (S.bytes shelf.old)) schema.now number) }
     ensures damaged { IfErr result (λ e. e ≡ Damaged → (s : model.Segment) → IsSegmentReadAs (Tells (S.bytes shelf.old)) schema.now number s → ⊥) }
     ensures due { IfErr result (λ e. e ≡ Memory → S.bytes shelf.old (FileName.Segment number) ≢ Some None) }
-    ensures device { IfErr result (λ e. e ≡ Device → S.can_fail shelf.old) }
-    ensures same { (q : FileName) → S.bytes shelf.new q ≡ S.bytes shelf.old q }
-    ensures crash { (q : FileName) → NoMore (S.may_leave shelf.old q) (S.may_leave shelf.new q) }
-    ensures can { S.can_fail shelf.new → S.can_fail shelf.old }
-    ensures counted { CountsReading (S.fault_count shelf.old) (S.fault_count shelf.new) result }
+    ensures fails { FailsReading S.can_fail S.fault_count shelf.old shelf.new result }
+    ensures frame { OnlyReads S.bytes S.may_leave S.can_fail shelf.old shelf.new }
 {
     segments_are_told_by_their_bytes();
     let bytes = read_file(alloc, shelf, FileName::Segment(number))?;
@@ -82,11 +79,8 @@ fn read_live_file<S: Shelf>(
     ensures damaged { IfErr result (λ e. e ≡ Damaged → (live : List Bool)
         → HasLiveFile (Tells (S.bytes shelf.old)) (record { number = number; file = generation }) live → length live ≡ rows → ⊥) }
     ensures due { IfErr result (λ e. e ≡ Memory → S.bytes shelf.old (FileName.Live number generation) ≢ Some None) }
-    ensures device { IfErr result (λ e. e ≡ Device → S.can_fail shelf.old) }
-    ensures same { (q : FileName) → S.bytes shelf.new q ≡ S.bytes shelf.old q }
-    ensures crash { (q : FileName) → NoMore (S.may_leave shelf.old q) (S.may_leave shelf.new q) }
-    ensures can { S.can_fail shelf.new → S.can_fail shelf.old }
-    ensures counted { CountsReading (S.fault_count shelf.old) (S.fault_count shelf.new) result }
+    ensures fails { FailsReading S.can_fail S.fault_count shelf.old shelf.new result }
+    ensures frame { OnlyReads S.bytes S.may_leave S.can_fail shelf.old shelf.new }
 {
     live_rows_are_told_by_their_bytes();
     let bytes = read_file(alloc, shelf, FileName::Live(number, generation))?;
@@ -109,11 +103,8 @@ fn read_live<S: Shelf>(
     ensures damaged { IfErr result (λ e. e ≡ Damaged → (live : List Bool)
         → HasLiveRows (Tells (S.bytes shelf.old)) listed rows live → length live ≡ rows → ⊥) }
     ensures due { IfErr result (λ e. e ≡ Memory → listed.file ≢ 0 → S.bytes shelf.old (FileName.Live listed.number listed.file) ≢ Some None) }
-    ensures device { IfErr result (λ e. e ≡ Device → S.can_fail shelf.old) }
-    ensures same { (q : FileName) → S.bytes shelf.new q ≡ S.bytes shelf.old q }
-    ensures crash { (q : FileName) → NoMore (S.may_leave shelf.old q) (S.may_leave shelf.new q) }
-    ensures can { S.can_fail shelf.new → S.can_fail shelf.old }
-    ensures counted { CountsReading (S.fault_count shelf.old) (S.fault_count shelf.new) result }
+    ensures fails { FailsReading S.can_fail S.fault_count shelf.old shelf.new result }
+    ensures frame { OnlyReads S.bytes S.may_leave S.can_fail shelf.old shelf.new }
 {
     let Some(generation) = listed.live_file() else {
         return Ok(Live::all(alloc, rows)?);
@@ -137,11 +128,8 @@ fn judge_sources<S: Shelf>(shelf: &mut S, segment: &Segment) -> Result<(), Refus
     ensures ok { OnOk result (HasSources (MayHold (S.bytes shelf.old)) segment.now) }
     ensures damaged { IfErr result (λ e. e ≡ Damaged → HasSources (Tells (S.bytes shelf.old)) segment.now → ⊥) }
     ensures refusal { IfErr result (λ e. (e ≡ Damaged) ⊎ (e ≡ Device)) }
-    ensures device { IfErr result (λ e. e ≡ Device → S.can_fail shelf.old) }
-    ensures same { (q : FileName) → S.bytes shelf.new q ≡ S.bytes shelf.old q }
-    ensures crash { (q : FileName) → NoMore (S.may_leave shelf.old q) (S.may_leave shelf.new q) }
-    ensures can { S.can_fail shelf.new → S.can_fail shelf.old }
-    ensures counted { CountsReading (S.fault_count shelf.old) (S.fault_count shelf.new) result }
+    ensures fails { FailsReading S.can_fail S.fault_count shelf.old shelf.new result }
+    ensures frame { OnlyReads S.bytes S.may_leave S.can_fail shelf.old shelf.new }
 {
     let size = shelf.size(FileName::Source(segment.number()))?;
     if !are_sources(segment, size) {
@@ -160,11 +148,8 @@ fn read_parts<S: Shelf>(
     ensures ok { IfOk result (λ p. IsLeafOf (MayHold (S.bytes shelf.old)) schema.now listed (record { segment = p.0; live = p.1 })) }
     ensures damaged { IfErr result (λ e. e ≡ Damaged → (leaf : model.Leaf) → IsLeafOf (Tells (S.bytes shelf.old)) schema.now listed leaf → ⊥) }
     ensures due { IfErr result (λ e. e ≡ Memory → S.bytes shelf.old (FileName.Segment listed.number) ≢ Some None) }
-    ensures device { IfErr result (λ e. e ≡ Device → S.can_fail shelf.old) }
-    ensures same { (q : FileName) → S.bytes shelf.new q ≡ S.bytes shelf.old q }
-    ensures crash { (q : FileName) → NoMore (S.may_leave shelf.old q) (S.may_leave shelf.new q) }
-    ensures can { S.can_fail shelf.new → S.can_fail shelf.old }
-    ensures counted { CountsReading (S.fault_count shelf.old) (S.fault_count shelf.new) result }
+    ensures fails { FailsReading S.can_fail S.fault_count shelf.old shelf.new result }
+    ensures frame { OnlyReads S.bytes S.may_leave S.can_fail shelf.old shelf.new }
 {
     segments_are_told_by_their_bytes();
     let segment = read_segment(alloc, shelf, schema, listed.number())?;
@@ -184,11 +169,8 @@ pub(crate) fn read_leaf<S: Shelf>(
     ensures ok { IfOk result (IsLeafOf (MayHold (S.bytes shelf.old)) schema.now listed) }
     ensures damaged { IfErr result (λ e. e ≡ Damaged → (leaf : model.Leaf) → IsLeafOf (Tells (S.bytes shelf.old)) schema.now listed leaf → ⊥) }
     ensures due { IfErr result (λ e. e ≡ Memory → S.bytes shelf.old (FileName.Segment listed.number) ≢ Some None) }
-    ensures device { IfErr result (λ e. e ≡ Device → S.can_fail shelf.old) }
-    ensures same { (q : FileName) → S.bytes shelf.new q ≡ S.bytes shelf.old q }
-    ensures crash { (q : FileName) → NoMore (S.may_leave shelf.old q) (S.may_leave shelf.new q) }
-    ensures can { S.can_fail shelf.new → S.can_fail shelf.old }
-    ensures counted { CountsReading (S.fault_count shelf.old) (S.fault_count shelf.new) result }
+    ensures fails { FailsReading S.can_fail S.fault_count shelf.old shelf.new result }
+    ensures frame { OnlyReads S.bytes S.may_leave S.can_fail shelf.old shelf.new }
 {
     let (segment, live) = read_parts(alloc, shelf, schema, listed)?;
     let segment = Arc::new(alloc, segment)?;

@@ -1,8 +1,8 @@
 //! All listed segments, read from their files.
 ghost use Rattle.std.specs.Prelude.{◌≡◌, ◌≢◌, ◌<◌, List, length, Some, None, IfOk, IfErr};
 ghost use Rattle.std.specs.List.{HoldsAt};
-ghost use Rattle.cat_base.specs.declared.refusal.Refusal.TheVariants.{Device, Damaged, Memory};
-ghost use Rattle.cat_directory.specs.Devices.{CountsReading, NoMore};
+ghost use Rattle.cat_base.specs.declared.refusal.Refusal.TheVariants.{Damaged, Memory};
+ghost use Rattle.cat_directory.specs.Frames.{FailsReading, OnlyReads};
 ghost use Rattle.cat_model.specs.View as model;
 ghost use Rattle.cat_ledger_laws.specs.model.Opening.{AreLeavesOf};
 ghost use Rattle.cat_ledger_laws.specs.shape.OpeningLaws.{MayHold};
@@ -32,11 +32,8 @@ pub(crate) fn read_leaves<S: Shelf>(
         → AreLeavesOf (Tells (S.bytes shelf.old)) schema.now listed.now leaves → ⊥) }
     ensures due { IfErr result (λ e. e ≡ Memory → (0 < length listed.now)
         × HoldsAt (λ x. S.bytes shelf.old (FileName.Segment x.number) ≢ Some None) listed.now 0) }
-    ensures device { IfErr result (λ e. e ≡ Device → S.can_fail shelf.old) }
-    ensures same { (q : FileName) → S.bytes shelf.new q ≡ S.bytes shelf.old q }
-    ensures crash { (q : FileName) → NoMore (S.may_leave shelf.old q) (S.may_leave shelf.new q) }
-    ensures can { S.can_fail shelf.new → S.can_fail shelf.old }
-    ensures counted { CountsReading (S.fault_count shelf.old) (S.fault_count shelf.new) result }
+    ensures fails { FailsReading S.can_fail S.fault_count shelf.old shelf.new result }
+    ensures frame { OnlyReads S.bytes S.may_leave S.can_fail shelf.old shelf.new }
 {
     let mut leaves = Vec::new(alloc);
     for segment in listed {

@@ -1,7 +1,7 @@
 //! A commit with what the files of its segments hold.
 ghost use Rattle.std.specs.Prelude.{◌≡◌, ◌≢◌, ◌↔◌, Some, None, IfOk, IfErr, IsTrue};
 ghost use Rattle.cat_base.specs.declared.refusal.Refusal.TheVariants.{Kind, Damaged, Device, Memory};
-ghost use Rattle.cat_directory.specs.Devices.{CountsReading, NoMore};
+ghost use Rattle.cat_directory.specs.Frames.{FailsReading, OnlyReads};
 ghost use Rattle.cat_model.specs.CommitFile as file;
 ghost use Rattle.cat_model.specs.Merged.{rows_of_all};
 ghost use Rattle.cat_commits.specs.reading.Judged.{AreInOrder, Differ, live_ids};
@@ -54,11 +54,8 @@ fn read_own<S: Shelf>(
     ensures ok { IfOk result (HasCommit (MayHold (S.bytes shelf.old)) generation) }
     ensures damaged { IfErr result (λ e. e ≡ Damaged → (c : file.CommitFile) → HasCommit (Tells (S.bytes shelf.old)) generation c → ⊥) }
     ensures due { IfErr result (λ e. e ≡ Memory → S.bytes shelf.old (FileName.Commit generation) ≢ Some None) }
-    ensures device { IfErr result (λ e. e ≡ Device → S.can_fail shelf.old) }
-    ensures same { (q : FileName) → S.bytes shelf.new q ≡ S.bytes shelf.old q }
-    ensures crash { (q : FileName) → NoMore (S.may_leave shelf.old q) (S.may_leave shelf.new q) }
-    ensures can { S.can_fail shelf.new → S.can_fail shelf.old }
-    ensures counted { CountsReading (S.fault_count shelf.old) (S.fault_count shelf.new) result }
+    ensures fails { FailsReading S.can_fail S.fault_count shelf.old shelf.new result }
+    ensures frame { OnlyReads S.bytes S.may_leave S.can_fail shelf.old shelf.new }
 {
     commits_are_told_by_their_bytes();
     let bytes = read_file(alloc, shelf, FileName::Commit(generation))?;
@@ -116,9 +113,7 @@ pub fn read_commit<S: Shelf>(
     ensures foreign { IfErr result (λ e. e ≡ Kind → IsForeign (MayHold (S.bytes shelf.old)) schema.now generation) }
     ensures due { IfErr result (λ e. e ≡ Memory → S.bytes shelf.old (FileName.Commit generation) ≢ Some None) }
     ensures device { IfErr result (λ e. e ≡ Device → S.can_fail shelf.old) }
-    ensures same { (q : FileName) → S.bytes shelf.new q ≡ S.bytes shelf.old q }
-    ensures crash { (q : FileName) → NoMore (S.may_leave shelf.old q) (S.may_leave shelf.new q) }
-    ensures can { S.can_fail shelf.new → S.can_fail shelf.old }
+    ensures frame { OnlyReads S.bytes S.may_leave S.can_fail shelf.old shelf.new }
     ensures counted { CountsOpening (S.fault_count shelf.old) (S.fault_count shelf.new) result }
 {
     commits_are_told_by_their_bytes();

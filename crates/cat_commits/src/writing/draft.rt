@@ -20,7 +20,6 @@ use std::marker::Model;
 /// `IndexWriter.prepareCommit` has at hand.)
 ///
 /// Contracts see it as what it lists, what its own file says, and the names of the files that are synced before that is begun.
-#[derive(Drop)]
 pub struct Draft {
     listing: Listing,
     commit: Commit,
@@ -41,6 +40,25 @@ impl Model for Draft {
 
     ghost invariant = { λ d. drafts.IsDrafted (record { listing = d.listing; commit = d.commit; unsynced = map name_of d.unsynced.items })
         d.own d.live_files.items (map name_of d.names.items) };
+}
+
+impl Drop for Draft {
+    fn drop(self) {
+        let Draft {
+            listing,
+            commit,
+            own,
+            live_files,
+            names,
+            unsynced,
+        } = self;
+        drop(listing);
+        drop(commit);
+        drop(own);
+        drop(live_files);
+        drop(names);
+        drop(unsynced);
+    }
 }
 
 /// The commit under the heading that lists this.
@@ -199,6 +217,18 @@ impl Draft {
         ensures parts { (result.0 ≡ self.commit) × (result.1 ≡ self.listing) }
         ensures apart { AllPairs (λ a b. a.number ≢ b.number) result.1 }
     {
-        (self.commit, self.listing)
+        let Draft {
+            listing,
+            commit,
+            own,
+            live_files,
+            names,
+            unsynced,
+        } = self;
+        drop(own);
+        drop(live_files);
+        drop(names);
+        drop(unsynced);
+        (commit, listing)
     }
 }

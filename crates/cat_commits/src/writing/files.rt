@@ -3,6 +3,7 @@ ghost use Rattle.std.specs.Prelude.{◌≡◌, ◌≢◌, ◌⊎◌, true, false
 ghost use Rattle.cat_base.specs.declared.refusal.Refusal.TheVariants.{Device};
 ghost use Rattle.cat_model.specs.Files.{IsFileName};
 ghost use Rattle.cat_directory.specs.Devices.{CountsWriting, IsSettled, NoMore};
+ghost use Rattle.cat_directory.specs.Frames.{FailsWriting};
 ghost use Rattle.cat_directory.specs.Names.{name_of};
 ghost use Rattle.cat_ledger_laws.specs.model.Users.{has_name};
 ghost use Rattle.cat_ledger_laws.specs.shape.Ties.{TouchesOnly};
@@ -35,9 +36,7 @@ fn write_one<D: Directory>(device: &mut D, alloc: Global, file: &NewFile) -> Res
     ensures crash { (q : FileName) → q ≢ file.now.name → NoMore (D.may_leave device.old q) (D.may_leave device.new q) }
     ensures torn { OnlyTorn file.now.name file.now.bytes (D.bytes device.old) (D.may_leave device.old) (D.may_leave device.new) }
     ensures ok { OnOk result (IsWritten (D.bytes device.old) (D.bytes device.new) file.now) }
-    ensures device { IfErr result (λ e. e ≡ Device → D.can_fail device.old) }
-    ensures can { D.can_fail device.new → D.can_fail device.old }
-    ensures counted { CountsWriting (D.fault_count device.old) (D.fault_count device.new) result }
+    ensures fails { FailsWriting D.can_fail D.fault_count device.old device.new result }
 {
     write_file(device, alloc, file.name, &file.bytes)
 }
@@ -50,9 +49,7 @@ fn write_last<D: Directory>(device: &mut D, alloc: Global, file: &NewFile) -> Re
     ensures torn { OnlyTorn file.now.name file.now.bytes (D.bytes device.old) (D.may_leave device.old) (D.may_leave device.new) }
     ensures ok { OnOk result (IsWritten (D.bytes device.old) (D.bytes device.new) file.now) }
     ensures lasts { OnOk result (IsSettled (D.bytes device.new file.now.name) (D.may_leave device.new file.now.name)) }
-    ensures device { IfErr result (λ e. e ≡ Device → D.can_fail device.old) }
-    ensures can { D.can_fail device.new → D.can_fail device.old }
-    ensures counted { CountsWriting (D.fault_count device.old) (D.fault_count device.new) result }
+    ensures fails { FailsWriting D.can_fail D.fault_count device.old device.new result }
 {
     write_lasting(device, alloc, file.name, &file.bytes)?;
     Ok(())
@@ -69,9 +66,7 @@ fn write_files<D: Directory>(
     ensures others { TouchesOnly (names_of files.now) (D.bytes device.old) (D.bytes device.new) }
     ensures crash { NoMoreBut (names_of files.now) (D.may_leave device.old) (D.may_leave device.new) }
     ensures ok { OnOk result (All (IsWritten (D.bytes device.old) (D.bytes device.new)) files.now) }
-    ensures device { IfErr result (λ e. e ≡ Device → D.can_fail device.old) }
-    ensures can { D.can_fail device.new → D.can_fail device.old }
-    ensures counted { CountsWriting (D.fault_count device.old) (D.fault_count device.new) result }
+    ensures fails { FailsWriting D.can_fail D.fault_count device.old device.new result }
 {
     for file in files {
         write_one(device, alloc, file)?;

@@ -20,7 +20,6 @@ use std::marker::Model;
 /// these. From it the next commit knows which live files it can keep. (Lucene: the `SegmentCommitInfo`s of a `SegmentInfos`.)
 ///
 /// Contracts see it as the list of these, 0 standing for no live file.
-#[derive(Drop)]
 pub struct Listing {
     entries: Vec<Listed>,
 }
@@ -32,6 +31,13 @@ impl Model for Listing {
     ghost Value = { List shape.ListedLive };
 
     ghost view = { λ l. l.entries.items };
+}
+
+impl Drop for Listing {
+    fn drop(self) {
+        let Listing { entries } = self;
+        drop(entries);
+    }
 }
 
 impl Listing {

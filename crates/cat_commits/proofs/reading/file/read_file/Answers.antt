@@ -4,6 +4,7 @@ use Rattle.cat_base.specs.declared.refusal.Refusal.{Refusal}
 use Rattle.cat_base.specs.declared.refusal.Refusal.TheVariants.{Damaged}
 use Rattle.cat_model.specs.Text.{Text}
 use Rattle.cat_commits.proofs.reading.Reading.{passed, told_so, more_read, all_read}
+use Rattle.cat_commits.proofs.Frames.{reads_on}
 use Rattle.cat_commits.proofs.reading.file.read_file.Goals as goal
 
 pub returns-in_err-bytes-clause-damaged : goal.returns-in_err-bytes-clause-damaged
@@ -18,7 +19,7 @@ pub returns-in_err-more-clause-damaged : goal.returns-in_err-more-clause-damaged
 returns-in_err-more-clause-damaged g c =
     passed (λ (e : Refusal). e ≡ Damaged → (bs : Text) → g.S.Holder.bytes c.args.shelf.now c.args.name ≢ Some (Some bs)) _ _ c.from_residual-in_err-more.ensures
     (λ is bs told.
-    let short = c.in_err-more.ensures.damaged is bs (c.loop-alloc.invariant.same c.args.name ∙ told) in
+    let short = c.in_err-more.ensures.damaged is bs (c.loop-alloc.invariant.frame.same c.args.name ∙ told) in
     let size = c.loop-alloc.invariant.all bs told in
     omega (arith, short, size, c.piece-in-loop-alloc.ensures.within))
 
@@ -31,11 +32,9 @@ loop-alloc-preserved g c =
       there = c.loop-alloc.invariant.there;
       told = λ bs told.
           more_read c.loop-alloc.bytes.items c.in_ok-more.more.items c.extend_from_slice.new.self.items bs _ _ (c.loop-alloc.invariant.told bs told) (search rules)
-          (c.in_ok-more.ensures.ok bs (c.loop-alloc.invariant.same c.args.name ∙ told)) c.in_ok-more.ensures.len joined;
+          (c.in_ok-more.ensures.ok bs (c.loop-alloc.invariant.frame.same c.args.name ∙ told)) c.in_ok-more.ensures.len joined;
       all = c.loop-alloc.invariant.all;
-      same = λ q. c.in_ok-more.ensures.same q ∙ c.loop-alloc.invariant.same q;
-      crash = λ q e left. c.loop-alloc.invariant.crash q e (c.in_ok-more.ensures.crash q e left);
-      can = λ fails. c.loop-alloc.invariant.can (c.in_ok-more.ensures.can fails);
+      frame = reads_on c.loop-alloc.invariant.frame (record { same = c.in_ok-more.ensures.same; crash = c.in_ok-more.ensures.crash; can = c.in_ok-more.ensures.can });
       count = search rules;
     }
 

@@ -1,6 +1,5 @@
 use Rattle.std.proofs.Common.{◌≡◌, ◌≢◌, ◌-◌, ◌≤◌, List, ℕ, length, take, Some, None}
-use Rattle.cat_directory.specs.declared.name.FileName.{FileName}
-use Rattle.cat_directory.specs.Devices.{NoMore}
+use Rattle.cat_directory.specs.Frames.{OnlyReads}
 use Rattle.cat_commits.proofs.reading.file.read_file.Given as goal
 
 abbrev pub decreases-loop-alloc : goal.decreases-loop-alloc
@@ -12,8 +11,6 @@ invariant-loop-alloc g l = record {
   there : g.S.Holder.bytes l.fn.shelf l.name ≢ Some None;
   told : (bs : List ℕ) → g.S.Holder.bytes l.fn.shelf l.name ≡ Some (Some bs) → l.bytes.items ≡ take (length l.bytes.items) bs;
   all : (bs : List ℕ) → g.S.Holder.bytes l.fn.shelf l.name ≡ Some (Some bs) → l.size ≡ length bs;
-  same : (q : FileName) → g.S.Holder.bytes l.shelf q ≡ g.S.Holder.bytes l.fn.shelf q;
-  crash : (q : FileName) → NoMore (g.S.Holder.may_leave l.fn.shelf q) (g.S.Holder.may_leave l.shelf q);
-  can : g.S.Holder.can_fail l.shelf → g.S.Holder.can_fail l.fn.shelf;
+  frame : OnlyReads g.S.Holder.bytes g.S.Holder.may_leave g.S.Holder.can_fail l.fn.shelf l.shelf;
   count : g.S.Holder.fault_count l.shelf ≡ g.S.Holder.fault_count l.fn.shelf;
 }

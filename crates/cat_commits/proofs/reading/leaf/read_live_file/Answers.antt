@@ -7,7 +7,8 @@ use Rattle.cat_model.specs.LiveFile.{LiveRows, SpellsLive}
 use Rattle.cat_ledger_laws.specs.model.Opening.{HasLiveFile}
 use Rattle.cat_ledger_laws.specs.shape.OpeningLaws.{MayHold}
 use Rattle.cat_commits.specs.reading.Told.{Tells}
-use Rattle.cat_commits.proofs.reading.Reading.{counts_judged, counts_on, judged, not_ok, passed}
+use Rattle.cat_commits.proofs.reading.Reading.{not_ok, passed}
+use Rattle.cat_commits.proofs.Frames.{fails_judged, fails_on}
 use Rattle.cat_commits.proofs.reading.Parts.{live_as, live_spells, live_other, not_absent}
 use Rattle.cat_commits.proofs.reading.leaf.read_live_file.Goals as goal
 
@@ -17,11 +18,8 @@ returns-in_err-bytes g c = record {
   damaged = passed (λ (e : Refusal). e ≡ Damaged → (live : List Bool) → HasLiveFile (Tells (g.S.Holder.bytes c.args.shelf.now)) (record { number = c.args.number; file = c.args.generation }) live
       → length live ≡ c.args.rows → ⊥) _ _ c.from_residual.ensures (λ is live h long. c.in_err-bytes.ensures.damaged is h.bytes h.there);
   due = passed (λ (e : Refusal). e ≡ Memory → g.S.Holder.bytes c.args.shelf.now (file.Live c.args.number c.args.generation) ≢ Some None) _ _ c.from_residual.ensures c.in_err-bytes.ensures.due;
-  device = passed (λ (e : Refusal). e ≡ Device → g.S.Holder.can_fail c.args.shelf.now) _ _ c.from_residual.ensures c.in_err-bytes.ensures.device;
-  same = c.in_err-bytes.ensures.same;
-  crash = c.in_err-bytes.ensures.crash;
-  can = c.in_err-bytes.ensures.can;
-  counted = counts_on (g.S.Holder.fault_count c.args.shelf.now) (g.S.Holder.fault_count c.read_file.new.shelf) _ _ c.from_residual.ensures c.in_err-bytes.ensures.counted;
+  fails = fails_on c.from_residual.ensures c.in_err-bytes.ensures.fails;
+  frame = c.in_err-bytes.ensures.frame;
 }
 
 pub returns-in_err-file : goal.returns-in_err-file
@@ -35,11 +33,8 @@ returns-in_err-file g c = record {
       (live_spells (g.S.Holder.bytes c.args.shelf.now) c.args.number c.args.generation c.in_ok-bytes.bytes.items c.in_ok-bytes.ensures.ok live h)));
   due = passed (λ (e : Refusal). e ≡ Memory → g.S.Holder.bytes c.args.shelf.now (file.Live c.args.number c.args.generation) ≢ Some None) _ _ c.from_residual-in_err-file.ensures
       (λ is. not_absent (g.S.Holder.bytes c.args.shelf.now (file.Live c.args.number c.args.generation)) c.in_ok-bytes.bytes.items c.in_ok-bytes.ensures.ok);
-  device = passed (λ (e : Refusal). e ≡ Device → g.S.Holder.can_fail c.args.shelf.now) _ _ c.from_residual-in_err-file.ensures (judged (g.S.Holder.can_fail c.args.shelf.now) _ c.in_err-file.ensures.refusal);
-  same = c.in_ok-bytes.ensures.same;
-  crash = c.in_ok-bytes.ensures.crash;
-  can = c.in_ok-bytes.ensures.can;
-  counted = counts_on (g.S.Holder.fault_count c.args.shelf.now) (g.S.Holder.fault_count c.read_file.new.shelf) _ _ c.from_residual-in_err-file.ensures (counts_judged (g.S.Holder.fault_count c.args.shelf.now) (g.S.Holder.fault_count c.read_file.new.shelf) _ c.in_err-file.ensures.refusal c.in_ok-bytes.ensures.counted);
+  fails = fails_judged c.from_residual-in_err-file.ensures c.in_ok-bytes.ensures.fails.counted c.in_err-file.ensures.refusal;
+  frame = c.in_ok-bytes.ensures.frame;
 }
 
 pub returns-then-not-is_for : goal.returns-then-not-is_for
@@ -50,11 +45,8 @@ returns-then-not-is_for g c = record {
       c.args.rows live (subst (λ (b : Text). SpellsLive b c.in_ok-file.file) c.deref.ensures.value c.in_ok-file.ensures.ok)
       (λ all. absurd (let yes : c.is_for.result ≡ true = c.is_for.ensures.1 all in let no : c.is_for.result ≡ false = search rules in cc)) h long;
   due = λ is. absurd (let no : Damaged ≡ Memory = is in cc);
-  device = λ is. absurd (let no : Damaged ≡ Device = is in cc);
-  same = c.in_ok-bytes.ensures.same;
-  crash = c.in_ok-bytes.ensures.crash;
-  can = c.in_ok-bytes.ensures.can;
-  counted = c.in_ok-bytes.ensures.counted;
+  fails = record { device = λ is. absurd (let no : Damaged ≡ Device = is in cc); counted = c.in_ok-bytes.ensures.fails.counted };
+  frame = c.in_ok-bytes.ensures.frame;
 }
 
 pub returns-clause-ok : goal.returns-clause-ok
@@ -67,14 +59,8 @@ returns-clause-ok g c =
       all.2,
     )
 
-pub returns-clause-same : goal.returns-clause-same
-returns-clause-same g c = c.in_ok-bytes.ensures.same
+pub returns-clause-frame : goal.returns-clause-frame
+returns-clause-frame g c = c.in_ok-bytes.ensures.frame
 
-pub returns-clause-crash : goal.returns-clause-crash
-returns-clause-crash g c = c.in_ok-bytes.ensures.crash
-
-pub returns-clause-can : goal.returns-clause-can
-returns-clause-can g c = c.in_ok-bytes.ensures.can
-
-pub returns-clause-counted : goal.returns-clause-counted
-returns-clause-counted g c = c.in_ok-bytes.ensures.counted
+pub returns-clause-fails : goal.returns-clause-fails
+returns-clause-fails g c = record { device = tt; counted = c.in_ok-bytes.ensures.fails.counted }

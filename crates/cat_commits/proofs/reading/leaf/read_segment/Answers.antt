@@ -8,7 +8,8 @@ use Rattle.cat_model.specs.View as model
 use Rattle.cat_ledger_laws.specs.shape.OpeningLaws.{MayHold}
 use Rattle.cat_commits.specs.reading.Leaf.{IsSegmentReadAs}
 use Rattle.cat_commits.specs.reading.Told.{Tells}
-use Rattle.cat_commits.proofs.reading.Reading.{counts_judged, counts_on, judged, not_ok, passed}
+use Rattle.cat_commits.proofs.reading.Reading.{not_ok, passed}
+use Rattle.cat_commits.proofs.Frames.{fails_judged, fails_on}
 use Rattle.cat_commits.proofs.reading.Parts.{is_other, not_absent, read_as, spells_told, told_there}
 use Rattle.cat_commits.proofs.reading.leaf.read_segment.Goals as goal
 
@@ -18,11 +19,8 @@ returns-in_err-bytes g c = record {
   damaged = passed (λ (e : Refusal). e ≡ Damaged → (s : model.Segment) → IsSegmentReadAs (Tells (g.S.Holder.bytes c.args.shelf.now)) c.args.schema.now c.args.number s → ⊥) _ _ c.from_residual.ensures
       (λ is s r. c.in_err-bytes.ensures.damaged is r.segment.bytes (told_there (g.S.Holder.bytes c.args.shelf.now) c.args.schema.now c.args.number s r));
   due = passed (λ (e : Refusal). e ≡ Memory → g.S.Holder.bytes c.args.shelf.now (file.Segment c.args.number) ≢ Some None) _ _ c.from_residual.ensures c.in_err-bytes.ensures.due;
-  device = passed (λ (e : Refusal). e ≡ Device → g.S.Holder.can_fail c.args.shelf.now) _ _ c.from_residual.ensures c.in_err-bytes.ensures.device;
-  same = c.in_err-bytes.ensures.same;
-  crash = c.in_err-bytes.ensures.crash;
-  can = c.in_err-bytes.ensures.can;
-  counted = counts_on (g.S.Holder.fault_count c.args.shelf.now) (g.S.Holder.fault_count c.read_file.new.shelf) _ _ c.from_residual.ensures c.in_err-bytes.ensures.counted;
+  fails = fails_on c.from_residual.ensures c.in_err-bytes.ensures.fails;
+  frame = c.in_err-bytes.ensures.frame;
 }
 
 pub returns-in_err-segment : goal.returns-in_err-segment
@@ -34,11 +32,8 @@ returns-in_err-segment g c = record {
       (spells_told (g.S.Holder.bytes c.args.shelf.now) c.args.schema.now c.args.number c.in_ok-bytes.bytes.items s c.in_ok-bytes.ensures.ok r)));
   due = passed (λ (e : Refusal). e ≡ Memory → g.S.Holder.bytes c.args.shelf.now (file.Segment c.args.number) ≢ Some None) _ _ c.from_residual-in_err-segment.ensures
       (λ is. not_absent (g.S.Holder.bytes c.args.shelf.now (file.Segment c.args.number)) c.in_ok-bytes.bytes.items c.in_ok-bytes.ensures.ok);
-  device = passed (λ (e : Refusal). e ≡ Device → g.S.Holder.can_fail c.args.shelf.now) _ _ c.from_residual-in_err-segment.ensures (judged (g.S.Holder.can_fail c.args.shelf.now) _ c.in_err-segment.ensures.refusal);
-  same = c.in_ok-bytes.ensures.same;
-  crash = c.in_ok-bytes.ensures.crash;
-  can = c.in_ok-bytes.ensures.can;
-  counted = counts_on (g.S.Holder.fault_count c.args.shelf.now) (g.S.Holder.fault_count c.read_file.new.shelf) _ _ c.from_residual-in_err-segment.ensures (counts_judged (g.S.Holder.fault_count c.args.shelf.now) (g.S.Holder.fault_count c.read_file.new.shelf) _ c.in_err-segment.ensures.refusal c.in_ok-bytes.ensures.counted);
+  fails = fails_judged c.from_residual-in_err-segment.ensures c.in_ok-bytes.ensures.fails.counted c.in_err-segment.ensures.refusal;
+  frame = c.in_ok-bytes.ensures.frame;
 }
 
 pub returns-then-not-is_of : goal.returns-then-not-is_of
@@ -49,11 +44,8 @@ returns-then-not-is_of g c = record {
       (subst (λ (b : Text). SpellsSegment b c.in_ok-segment.segment) c.deref.ensures.value c.in_ok-segment.ensures.ok)
       (λ both. absurd (let yes : c.is_of.result ≡ true = c.is_of.ensures.1 both in let no : c.is_of.result ≡ false = search rules in cc)) r;
   due = λ is. absurd (let no : Damaged ≡ Memory = is in cc);
-  device = λ is. absurd (let no : Damaged ≡ Device = is in cc);
-  same = c.in_ok-bytes.ensures.same;
-  crash = c.in_ok-bytes.ensures.crash;
-  can = c.in_ok-bytes.ensures.can;
-  counted = c.in_ok-bytes.ensures.counted;
+  fails = record { device = λ is. absurd (let no : Damaged ≡ Device = is in cc); counted = c.in_ok-bytes.ensures.fails.counted };
+  frame = c.in_ok-bytes.ensures.frame;
 }
 
 pub returns : goal.returns
@@ -62,9 +54,6 @@ returns g c = record {
       (subst (λ (b : Text). SpellsSegment b c.in_ok-segment.segment) c.deref.ensures.value c.in_ok-segment.ensures.ok) (c.is_of.ensures.0 (search rules));
   damaged = tt;
   due = tt;
-  device = tt;
-  same = c.in_ok-bytes.ensures.same;
-  crash = c.in_ok-bytes.ensures.crash;
-  can = c.in_ok-bytes.ensures.can;
-  counted = c.in_ok-bytes.ensures.counted;
+  fails = record { device = tt; counted = c.in_ok-bytes.ensures.fails.counted };
+  frame = c.in_ok-bytes.ensures.frame;
 }

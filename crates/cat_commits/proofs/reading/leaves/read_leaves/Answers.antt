@@ -1,4 +1,4 @@
-use Rattle.std.proofs.Common.{◌≡◌, ◌≢◌, ◌<◌, List, Some, None, length, sym, subst, ◌∙◌, rules}
+use Rattle.std.proofs.Common.{◌≡◌, ◌≢◌, ◌<◌, List, Some, None, length, sym, subst, rules}
 use Rattle.std.specs.List.{HoldsAt}
 use Rattle.cat_base.specs.declared.refusal.Refusal.{Refusal}
 use Rattle.cat_base.specs.declared.refusal.Refusal.TheVariants.{Damaged, Memory}
@@ -9,7 +9,8 @@ use Rattle.cat_ledger_laws.specs.model.Opening.{IsLeafOf, AreLeavesOf}
 use Rattle.cat_ledger_laws.specs.shape.OpeningLaws.{MayHold}
 use Rattle.cat_commits.specs.reading.Told.{Tells}
 use Rattle.cat_commits.proofs.reading.Reading.{any_fault, passed}
-use Rattle.cat_commits.proofs.reading.Parts.{as_one, first_there, leaf_refuted, leaf_there, leaves_next}
+use Rattle.cat_commits.proofs.Frames.{reads_on, told_before}
+use Rattle.cat_commits.proofs.reading.Parts.{first_there, leaf_refuted, leaf_there, leaves_next}
 use Rattle.cat_commits.proofs.reading.leaves.read_leaves.Goals as goal
 
 pub returns-in_err-leaf-clause-damaged : goal.returns-in_err-leaf-clause-damaged
@@ -17,7 +18,7 @@ returns-in_err-leaf-clause-damaged g c =
     passed (λ (e : Refusal). e ≡ Damaged → (leaves : List model.Leaf) → AreLeavesOf (Tells (g.S.Holder.bytes c.args.shelf.now)) c.args.schema.now c.args.listed.now leaves → ⊥) _ _ c.from_residual.ensures
     (λ is leaves k.
     leaf_refuted (g.S.Holder.bytes c.args.shelf.now) (g.S.Holder.bytes c.loop-segment.shelf) c.args.schema.now c.args.listed.now leaves c.loop-segment.segment-index c.segment-item.result c.loop-segment-test.true
-    (as_one (g.S.Holder.bytes c.args.shelf.now) (g.S.Holder.bytes c.loop-segment.shelf) c.loop-segment.invariant.same)
+    (told_before c.loop-segment.invariant.frame)
     (λ l h. c.in_err-leaf.ensures.damaged is l (subst (λ (x : ListedSegment). IsLeafOf (Tells (g.S.Holder.bytes c.loop-segment.shelf)) c.args.schema.now x l) (sym c.segment-item.is) h)) k)
 
 pub returns-in_err-leaf-clause-due : goal.returns-in_err-leaf-clause-due
@@ -25,7 +26,7 @@ returns-in_err-leaf-clause-due g c =
     passed (λ (e : Refusal). e ≡ Memory → (0 < length c.args.listed.now) × HoldsAt (λ (x : ListedSegment). g.S.Holder.bytes c.args.shelf.now (file.Segment x.number) ≢ Some None) c.args.listed.now 0) _ _ c.from_residual.ensures
     (λ is.
     first_there (g.S.Holder.bytes c.args.shelf.now) (g.S.Holder.bytes c.loop-segment.shelf) c.args.schema.now c.args.listed.now c.loop-segment.leaves.items c.loop-segment.segment-index c.segment-item.result c.loop-segment-test.true
-    (as_one (g.S.Holder.bytes c.args.shelf.now) (g.S.Holder.bytes c.loop-segment.shelf) c.loop-segment.invariant.same) c.loop-segment.invariant.read
+    (told_before c.loop-segment.invariant.frame) c.loop-segment.invariant.read
     (subst (λ (x : ListedSegment). g.S.Holder.bytes c.loop-segment.shelf (file.Segment x.number) ≢ Some None) c.segment-item.is (c.in_err-leaf.ensures.due is)))
 
 pub returns-in_err-push-clause-due : goal.returns-in_err-push-clause-due
@@ -33,17 +34,15 @@ returns-in_err-push-clause-due g c =
     any_fault (λ (e : Refusal). e ≡ Memory → (0 < length c.args.listed.now) × HoldsAt (λ (x : ListedSegment). g.S.Holder.bytes c.args.shelf.now (file.Segment x.number) ≢ Some None) c.args.listed.now 0) _
     (λ e is.
     first_there (g.S.Holder.bytes c.args.shelf.now) (g.S.Holder.bytes c.loop-segment.shelf) c.args.schema.now c.args.listed.now c.loop-segment.leaves.items c.loop-segment.segment-index c.segment-item.result c.loop-segment-test.true
-    (as_one (g.S.Holder.bytes c.args.shelf.now) (g.S.Holder.bytes c.loop-segment.shelf) c.loop-segment.invariant.same) c.loop-segment.invariant.read
+    (told_before c.loop-segment.invariant.frame) c.loop-segment.invariant.read
     (subst (λ (x : ListedSegment). g.S.Holder.bytes c.loop-segment.shelf (file.Segment x.number) ≢ Some None) c.segment-item.is
     (leaf_there (g.S.Holder.bytes c.loop-segment.shelf) c.args.schema.now c.segment-item.result c.in_ok-leaf.leaf c.in_ok-leaf.ensures.ok)))
 
 pub loop-segment-preserved : goal.loop-segment-preserved
 loop-segment-preserved g c = record {
   read = leaves_next (g.S.Holder.bytes c.args.shelf.now) (g.S.Holder.bytes c.loop-segment.shelf) c.args.schema.now c.args.listed.now c.loop-segment.leaves.items c.push.new.self.items c.in_ok-leaf.leaf c.loop-segment.segment-index c.segment-item.result
-      c.loop-segment-test.true (as_one (g.S.Holder.bytes c.args.shelf.now) (g.S.Holder.bytes c.loop-segment.shelf) c.loop-segment.invariant.same)
+      c.loop-segment-test.true (told_before c.loop-segment.invariant.frame)
       (subst (λ (x : ListedSegment). IsLeafOf (MayHold (g.S.Holder.bytes c.loop-segment.shelf)) c.args.schema.now x c.in_ok-leaf.leaf) c.segment-item.is c.in_ok-leaf.ensures.ok) c.loop-segment.invariant.read c.in_ok-push.ensures.items;
-  same = λ q. c.in_ok-leaf.ensures.same q ∙ c.loop-segment.invariant.same q;
-  crash = λ q e left. c.loop-segment.invariant.crash q e (c.in_ok-leaf.ensures.crash q e left);
-  can = λ fails. c.loop-segment.invariant.can (c.in_ok-leaf.ensures.can fails);
+  frame = reads_on c.loop-segment.invariant.frame c.in_ok-leaf.ensures.frame;
   count = search rules;
 }

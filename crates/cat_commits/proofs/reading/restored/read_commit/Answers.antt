@@ -5,7 +5,8 @@ use Rattle.cat_ledger_laws.specs.model.Opening.{Restored, IsRestored, IsForeign}
 use Rattle.cat_ledger_laws.specs.shape.Ties.{ToldFiles}
 use Rattle.cat_commits.specs.reading.Told.{Tells}
 use Rattle.cat_commits.proofs.reading.Reading.{passed}
-use Rattle.cat_commits.proofs.reading.Parts.{as_one, not_restored, not_foreign, restored_is, other_leaves, told_leaves, listed_leaves}
+use Rattle.cat_commits.proofs.Frames.{told_before}
+use Rattle.cat_commits.proofs.reading.Parts.{not_restored, not_foreign, restored_is, other_leaves, told_leaves, listed_leaves}
 use Rattle.cat_commits.proofs.reading.restored.read_commit.Goals as goal
 
 pub returns-in_err-commit-clause-damaged : goal.returns-in_err-commit-clause-damaged
@@ -30,7 +31,7 @@ returns-in_err-leaves-clause-damaged g c =
     not_restored c.commits_are_told_by_their_bytes.ensures told c.args.schema.now c.args.generation c.in_ok-commit.commit r c.in_ok-commit.ensures.ok
     (λ ls are order ids.
     c.in_err-leaves.ensures.damaged is ls
-    (told_leaves told (g.S.Holder.bytes c.read_own.new.shelf) c.args.schema.now c.in_ok-commit.commit.segments c.listed.result.now ls (as_one told (g.S.Holder.bytes c.read_own.new.shelf) c.in_ok-commit.ensures.same) c.listed.ensures are)) k)
+    (told_leaves told (g.S.Holder.bytes c.read_own.new.shelf) c.args.schema.now c.in_ok-commit.commit.segments c.listed.result.now ls (told_before c.in_ok-commit.ensures.frame) c.listed.ensures are)) k)
 
 pub returns-in_err-leaves-clause-own : goal.returns-in_err-leaves-clause-own
 returns-in_err-leaves-clause-own g c =
@@ -45,7 +46,7 @@ returns-then-not-well-clause-damaged g c = λ is r k.
     (λ ls are order ids.
     let same : ls ≡ c.in_ok-leaves.leaves.items = c.leaves_are_told_by_their_files.ensures told c.args.schema.now c.in_ok-commit.commit.segments c.in_ok-leaves.leaves.items ls
     (listed_leaves told (g.S.Holder.bytes c.read_own.new.shelf) c.args.schema.now c.in_ok-commit.commit.segments c.listed.result.now c.in_ok-leaves.leaves.items
-    (as_one told (g.S.Holder.bytes c.read_own.new.shelf) c.in_ok-commit.ensures.same) c.listed.ensures c.in_ok-leaves.ensures.ok) are in
+    (told_before c.in_ok-commit.ensures.frame) c.listed.ensures c.in_ok-leaves.ensures.ok) are in
     other_leaves c.in_ok-commit.commit.token ls c.in_ok-leaves.leaves.items c.deref.result.now c.in_ok-well.well same c.deref.ensures.value c.in_ok-well.ensures (search rules) order ids) k
 
 pub returns-then-not-well-clause-own : goal.returns-then-not-well-clause-own
@@ -57,5 +58,5 @@ returns-clause-ok g c =
     let told : ToldFiles = g.S.Holder.bytes c.args.shelf.now in
     restored_is told c.args.schema.now c.args.generation c.in_ok-commit.commit c.in_ok-leaves.leaves.items c.deref.result.now c.in_ok-commit.ensures.ok (c.is_under.ensures.0 (search rules))
     (listed_leaves told (g.S.Holder.bytes c.read_own.new.shelf) c.args.schema.now c.in_ok-commit.commit.segments c.listed.result.now c.in_ok-leaves.leaves.items
-    (as_one told (g.S.Holder.bytes c.read_own.new.shelf) c.in_ok-commit.ensures.same) c.listed.ensures c.in_ok-leaves.ensures.ok)
+    (told_before c.in_ok-commit.ensures.frame) c.listed.ensures c.in_ok-leaves.ensures.ok)
     c.deref.ensures.value (c.in_ok-well.ensures.0 (search rules))

@@ -8,8 +8,8 @@ loop-file-preserved g c = record {
       c.requires.apart c.loop-file-test.true c.file-item.is c.loop-file.invariant.progress c.in_ok-write_one.ensures.ok c.in_ok-write_one.ensures.others;
   crash = crash_more c.args.files.now c.loop-file.file-index c.file-item.result (g.D.Holder.may_leave c.args.device.now) (g.D.Holder.may_leave c.loop-file.device) (g.D.Holder.may_leave c.write_one.new.device)
       c.loop-file-test.true c.file-item.is c.loop-file.invariant.crash c.in_ok-write_one.ensures.crash;
-  can = λ fails. c.loop-file.invariant.can (c.in_ok-write_one.ensures.can fails);
-  count = c.in_ok-write_one.ensures.counted ∙ c.loop-file.invariant.count;
+  can = λ fails. c.loop-file.invariant.can (c.in_ok-write_one.ensures.fails.can fails);
+  count = c.in_ok-write_one.ensures.fails.counted ∙ c.loop-file.invariant.count;
 }
 
 pub returns-in_err-write_one-clause-others : goal.returns-in_err-write_one-clause-others

@@ -19,7 +19,7 @@ returns-in_err-sync-clause-device g c =
     ⊎ ((q : FileName) × (has_name (name_of q) (map name_of c.args.unsynced.now) ≡ true) × (has_name (name_of q) (names_of c.args.files.now) ≡ false)
     × (g.D.Holder.bytes c.args.device.now q ≡ Some None))) _ _ c.from_residual-in_err-sync.ensures
     (λ is. elim c.in_err-sync.ensures.device.1 [
-      | inl f ↦ inl (c.in_ok-write_files.ensures.can f)
+      | inl f ↦ inl (c.in_ok-write_files.ensures.fails.can f)
       | inr w ↦
           let before = absent_before c.args.files.now (g.D.Holder.bytes c.args.device.now) (g.D.Holder.bytes c.write_files.new.device) w.0
           c.in_ok-write_files.ensures.others c.in_ok-write_files.ensures.ok w.2 in
