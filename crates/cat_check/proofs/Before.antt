@@ -9,10 +9,10 @@ use Rattle.cat_ledger_laws.specs.shape.Ties.{ToldFiles}
 use Rattle.cat_check.specs.declared.report.Report.{Report}
 use Rattle.cat_check.specs.declared.verdict.Verdict.{Verdict}
 use Rattle.cat_check.specs.declared.verdict.Verdict.TheVariants as verdict
-use Rattle.cat_check.specs.Frame.{OnlyReads}
+use Rattle.cat_directory.specs.Frames.{OnlyReads}
 use Rattle.cat_check.specs.Judged.{IsCommitWhole, IsLost, IsJudged}
 use Rattle.cat_check.specs.Checked.{IsNewestReport}
-use Rattle.cat_check.proofs.Frame.{so_before}
+use Rattle.cat_commits.proofs.Frames.{so_before}
 
 -- each of them is judged
 abbrev pub AreJudged : ToldFiles → Type 0 → List Report → Type 0

@@ -1,4 +1,3 @@
 pub mod Agreeing
 pub mod Before
-pub mod Frame
 pub mod Older

@@ -1,4 +1,3 @@
-pub mod Frame
 pub mod Said
 pub mod Judged
 pub mod Below

@@ -3,7 +3,7 @@ ghost use Rattle.std.specs.Prelude.{◌≡◌, All, IfOk, IfErr, map};
 ghost use Rattle.std.specs.List.Sorted.{IsStrictlySortedBy};
 ghost use Rattle.cat_base.specs.declared.refusal.Refusal.TheVariants.{Device};
 ghost use Rattle.cat_directory.specs.Names.{name_cmp};
-ghost use Rattle.cat_check.specs.Frame.{OnlyReads};
+ghost use Rattle.cat_directory.specs.Frames.{OnlyReads};
 ghost use Rattle.cat_check.specs.Below.{AreOlder};
 ghost use Rattle.cat_check.specs.Judged.{IsJudged};
 ghost use Rattle.cat_check.specs.Checked.{IsChecked, IsNewestReport};

@@ -1,5 +1,5 @@
 //! How much there is of a commit.
-ghost use Rattle.cat_check.specs.Frame.{OnlyReads};
+ghost use Rattle.cat_directory.specs.Frames.{OnlyReads};
 
 use cat_commits::Leaf;
 use cat_directory::{FileName, Shelf};

@@ -4,7 +4,7 @@ ghost use Rattle.cat_base.specs.declared.refusal.Refusal.TheVariants.{Device};
 ghost use Rattle.cat_model.specs.CommitFile.{CommitFile};
 ghost use Rattle.cat_directory.specs.Devices.{IsSettled, removed, told_after};
 ghost use Rattle.cat_ledger_laws.specs.shape.OpeningLaws.{MayHold};
-ghost use Rattle.cat_check.specs.Frame.{OnlyReads};
+ghost use Rattle.cat_directory.specs.Frames.{OnlyReads};
 ghost use Rattle.cat_check.specs.Said.{SaysCommit, IsTorn};
 ghost use Rattle.cat_check.specs.Judged.{IsLost, IsCommitWhole};
 ghost use Rattle.cat_check.specs.Standing.{IsDroppable, IsDropped, IsStanding, StandsSo};

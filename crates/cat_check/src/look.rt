@@ -1,6 +1,6 @@
 //! The second, finer look at a commit that isn't whole: which of its files breaks which rule.
 ghost use Rattle.std.specs.Prelude.{◌≡◌, ◌<◌, ◌^◌, length, vec_len, Ok, IfOk, IfSome};
-ghost use Rattle.cat_check.specs.Frame.{OnlyReads};
+ghost use Rattle.cat_directory.specs.Frames.{OnlyReads};
 
 use crate::fault::{Fault, Rule};
 use crate::look_together::{id_twice, out_of_order};

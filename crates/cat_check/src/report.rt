@@ -1,7 +1,7 @@
 //! What is found of one commit.
 ghost use Rattle.std.specs.Prelude.{◌≡◌, IfOk};
 ghost use Rattle.cat_ledger_laws.specs.shape.OpeningLaws.{MayHold};
-ghost use Rattle.cat_check.specs.Frame.{OnlyReads};
+ghost use Rattle.cat_directory.specs.Frames.{OnlyReads};
 ghost use Rattle.cat_check.specs.Said.{SaysCommit, IsTorn};
 ghost use Rattle.cat_check.specs.Judged.{IsJudged};
 

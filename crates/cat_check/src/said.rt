@@ -1,9 +1,8 @@
 //! What a commit's own file says.
 ghost use Rattle.std.specs.Prelude.{◌≡◌, IfOk, IfErr};
-ghost use Rattle.cat_base.specs.declared.refusal.Refusal.TheVariants.{Device, Damaged};
-ghost use Rattle.cat_directory.specs.Devices.{CountsReading};
+ghost use Rattle.cat_base.specs.declared.refusal.Refusal.TheVariants.{Damaged};
 ghost use Rattle.cat_ledger_laws.specs.shape.OpeningLaws.{MayHold};
-ghost use Rattle.cat_check.specs.Frame.{OnlyReads};
+ghost use Rattle.cat_directory.specs.Frames.{FailsReading, OnlyReads};
 ghost use Rattle.cat_check.specs.Said.{SaysCommit, IsTorn};
 
 use cat_base::{Generation, Refusal};
@@ -21,9 +20,8 @@ pub(crate) fn read_said<S: Shelf>(
 ) -> Result<Commit, Refusal>
     ensures ok { IfOk result (SaysCommit (MayHold (S.bytes shelf.old)) generation) }
     ensures torn { IfErr result (λ e. e ≡ Damaged → IsTorn (S.bytes shelf.old) generation) }
-    ensures device { IfErr result (λ e. e ≡ Device → S.can_fail shelf.old) }
+    ensures fails { FailsReading S.can_fail S.fault_count shelf.old shelf.new result }
     ensures frame { OnlyReads S.bytes S.may_leave S.can_fail shelf.old shelf.new }
-    ensures counted { CountsReading (S.fault_count shelf.old) (S.fault_count shelf.new) result }
 {
     let bytes = read_file(alloc, shelf, FileName::Commit(generation))?;
     let commit = Commit::decode(alloc, &bytes)?;

@@ -3,7 +3,7 @@ ghost use Rattle.std.specs.Prelude.{◌≡◌, IfOk, IfErr};
 ghost use Rattle.cat_base.specs.declared.refusal.Refusal.TheVariants.{Device, Damaged};
 ghost use Rattle.cat_ledger_laws.specs.model.Opening.{IsRestored};
 ghost use Rattle.cat_ledger_laws.specs.shape.OpeningLaws.{MayHold};
-ghost use Rattle.cat_check.specs.Frame.{OnlyReads};
+ghost use Rattle.cat_directory.specs.Frames.{OnlyReads};
 ghost use Rattle.cat_check.specs.Said.{SaysCommit};
 ghost use Rattle.cat_check.specs.Judged.{IsLost, IsJudged};
 

@@ -5,9 +5,9 @@ use Rattle.cat_directory.specs.declared.name.FileName.{FileName}
 use Rattle.cat_directory.specs.Devices.{Lists}
 use Rattle.cat_directory.specs.Names.{name_cmp}
 use Rattle.cat_check.specs.Below.{AreOlder}
-use Rattle.cat_check.specs.Frame.{OnlyReads}
+use Rattle.cat_directory.specs.Frames.{OnlyReads}
 use Rattle.cat_check.specs.declared.report.Report.{Report}
-use Rattle.cat_check.proofs.Frame.{reads_on}
+use Rattle.cat_commits.proofs.Frames.{reads_on}
 use Rattle.cat_check.proofs.Before.{all_before, newest_before}
 use Rattle.cat_check.proofs.checked.check.Goals as goal
 

@@ -1,4 +1,4 @@
-use Rattle.cat_check.proofs.Frame.{reads_on}
+use Rattle.cat_commits.proofs.Frames.{reads_on}
 use Rattle.cat_check.proofs.Before.{one_more, one_more_each}
 use Rattle.cat_check.proofs.checked.reports_of.Goals as goal
 

@@ -1,6 +1,6 @@
 use Rattle.std.proofs.Common.{◌≡◌, take}
 use Rattle.std.specs.Prelude.{All, map}
-use Rattle.cat_check.specs.Frame.{OnlyReads}
+use Rattle.cat_directory.specs.Frames.{OnlyReads}
 use Rattle.cat_check.specs.Judged.{IsJudged}
 use Rattle.cat_check.specs.declared.report.Report.{Report}
 use Rattle.cat_check.proofs.checked.reports_of.Given as goal

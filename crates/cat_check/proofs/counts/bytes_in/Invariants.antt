@@ -1,4 +1,4 @@
-use Rattle.cat_check.specs.Frame.{OnlyReads}
+use Rattle.cat_directory.specs.Frames.{OnlyReads}
 use Rattle.cat_check.proofs.counts.bytes_in.Given as goal
 
 abbrev pub invariant-loop-name : goal.invariant-loop-name

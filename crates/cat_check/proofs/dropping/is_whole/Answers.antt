@@ -1,6 +1,6 @@
 use Rattle.cat_check.specs.Judged.{IsLost}
 use Rattle.cat_check.proofs.Agreeing.{lost_if_torn}
-use Rattle.cat_check.proofs.Frame.{so_before}
+use Rattle.cat_commits.proofs.Frames.{so_before}
 use Rattle.cat_check.proofs.dropping.is_whole.Goals as goal
 
 pub returns-in-Err-Damaged-clause-ok : goal.returns-in-Err-Damaged-clause-ok

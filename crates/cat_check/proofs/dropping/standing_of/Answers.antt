@@ -1,5 +1,5 @@
 use Rattle.cat_check.specs.Judged.{IsLost}
-use Rattle.cat_check.proofs.Frame.{so_before}
+use Rattle.cat_commits.proofs.Frames.{so_before}
 use Rattle.cat_check.proofs.Before.{if_true, if_false}
 use Rattle.cat_check.proofs.dropping.standing_of.Goals as goal
 

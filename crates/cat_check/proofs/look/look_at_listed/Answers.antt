@@ -1,4 +1,4 @@
-use Rattle.cat_check.proofs.Frame.{reads_on}
+use Rattle.cat_commits.proofs.Frames.{reads_on}
 use Rattle.cat_check.proofs.look.look_at_listed.Goals as goal
 
 pub returns-in_err-_sources : goal.returns-in_err-_sources

@@ -1,4 +1,4 @@
-use Rattle.cat_check.specs.Frame.{OnlyReads}
+use Rattle.cat_directory.specs.Frames.{OnlyReads}
 use Rattle.cat_check.proofs.look.look_at_segments.Given as goal
 
 abbrev pub invariant-loop-listed : goal.invariant-loop-listed

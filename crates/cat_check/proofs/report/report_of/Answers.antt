@@ -1,5 +1,5 @@
 use Rattle.cat_check.specs.Said.{IsTorn}
-use Rattle.cat_check.proofs.Frame.{so_after}
+use Rattle.cat_commits.proofs.Frames.{so_after}
 use Rattle.cat_check.proofs.Before.{reported_before}
 use Rattle.cat_check.proofs.report.report_of.Goals as goal
 
