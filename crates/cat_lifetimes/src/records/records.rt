@@ -37,7 +37,6 @@ use std::marker::Model;
 /// }
 /// records.record(view);
 /// ```
-#[derive(Drop)]
 pub struct Records {
     // In rising order of token. It has room for as many as may be recorded.
     recorded: Vec<Recorded>,
@@ -56,6 +55,14 @@ impl Model for Records {
     ghost view = { λ r. record { views = views_of r.recorded.items; holds = r.holds.keys } };
 
     ghost invariant = { λ r. AreKept r.recorded.items r.holds.keys × (view_limit ≤ vec_capacity r.recorded) };
+}
+
+impl Drop for Records {
+    fn drop(self) {
+        let Records { recorded, holds } = self;
+        drop(recorded);
+        drop(holds);
+    }
 }
 
 impl Records {

@@ -22,7 +22,6 @@ use std::marker::Model;
 /// (Lucene: `IndexFileDeleter` with its `RefCount`s, but which commits go is decided elsewhere.)
 ///
 /// Contracts see it as the list of the known names, each with the number of its users.
-#[derive(Drop)]
 pub struct FileRefs {
     users: HashMap<FileName, u64>,
 }
@@ -35,6 +34,13 @@ impl Model for FileRefs {
     ghost Value = { List Used };
 
     ghost view = { λ refs. map used_in refs.users.entries };
+}
+
+impl Drop for FileRefs {
+    fn drop(self) {
+        let FileRefs { users } = self;
+        drop(users);
+    }
 }
 
 impl FileRefs {
