@@ -48,7 +48,6 @@ pub struct Sealed {
 /// }
 /// buffer.put(write_number, item)?;
 /// ```
-#[derive(Drop)]
 pub struct Buffer {
     schema: Schema,
     // Each under the id of its item.
@@ -64,6 +63,14 @@ impl Model for Buffer {
     ghost view = { λ b. record { schema = b.schema; records = values b.entries } };
 
     ghost invariant = { λ b. IsBuffered (record { schema = b.schema; records = values b.entries }) × AreKeyed b.entries.entries };
+}
+
+impl Drop for Buffer {
+    fn drop(self) {
+        let Buffer { schema, entries } = self;
+        drop(schema);
+        drop(entries);
+    }
 }
 
 impl Buffer {

@@ -23,7 +23,6 @@ use std::marker::Model;
 /// `IndexWriter` with its `ReaderPool`. That a delete finds its row by a map is our own: there each segment is asked.)
 ///
 /// Contracts see it as the list of its leaves: their numbers differ, and so do the ids of their live rows.
-#[derive(Drop)]
 pub struct Current {
     alloc: Global,
     leaves: Vec<Leaf>,
@@ -43,6 +42,20 @@ impl Model for Current {
     ghost view = { λ c. c.leaves.items };
 
     ghost invariant = { λ c. IsCurrent (get_by_text c.places) (get nat_eq c.indices) (hash_map_len c.indices) c.leaves.items };
+}
+
+impl Drop for Current {
+    fn drop(self) {
+        let Current {
+            alloc: _,
+            leaves,
+            indices,
+            places,
+        } = self;
+        drop(leaves);
+        drop(indices);
+        drop(places);
+    }
 }
 
 /// How many live rows the leaves have together.
