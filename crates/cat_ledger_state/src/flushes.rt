@@ -6,7 +6,8 @@ ghost use Rattle.std.specs.Prelude.{◌≡◌, ◌≢◌, ◌⊎◌, false, ◌<
 ghost use Rattle.cat_base.specs.declared.refusal.Refusal.TheVariants.{Memory, Device, Spent};
 ghost use Rattle.cat_model.specs.Files.{Name, IsFileNumber};
 ghost use Rattle.cat_model.specs.Layout.{SpellsSegment};
-ghost use Rattle.cat_directory.specs.Devices.{CountsOne, CountsWriting, NoMore};
+ghost use Rattle.cat_directory.specs.Devices.{NoMore};
+ghost use Rattle.cat_directory.specs.Frames.{CountsFailures, FailsWriting};
 ghost use Rattle.cat_directory.specs.declared.name.FileName.{FileName};
 ghost use Rattle.cat_ledger_laws.specs.model.Leaves.{AreLeaves};
 ghost use Rattle.cat_ledger_laws.specs.model.Portions.{all_live, leaf_of};
@@ -109,9 +110,7 @@ fn write_segment<D: Directory>(
         → NoMore (D.may_leave device.old q) (D.may_leave device.new q) }
     ensures segment { OnOk result (IsTold (D.bytes device.new (FileName.Segment number)) (Some bytes.now)) }
     ensures source { OnOk result (IsTold (D.bytes device.new (FileName.Source number)) (Some sources.now)) }
-    ensures device { IfErr result (λ e. e ≡ Device → D.can_fail device.old) }
-    ensures can { D.can_fail device.new → D.can_fail device.old }
-    ensures counted { CountsWriting (D.fault_count device.old) (D.fault_count device.new) result }
+    ensures fails { FailsWriting D.can_fail D.fault_count device.old device.new result }
 {
     write_file(device, alloc, FileName::Segment(number), bytes)?;
     write_file(device, alloc, FileName::Source(number), sources)
@@ -139,9 +138,7 @@ fn write_last<D: Directory>(
     ensures used { OnOk result (refs.new ≡ refs.old) }
     ensures taken_out { OnErr result (current.new ≡ take (length current.old - 1) current.old) }
     ensures given { OnErr result (Changes [] (Name.segment number ∷ Name.source number ∷ []) refs.old refs.new) }
-    ensures device { IfErr result (λ e. e ≡ Device → D.can_fail device.old) }
-    ensures can { D.can_fail device.new → D.can_fail device.old }
-    ensures counted { CountsWriting (D.fault_count device.old) (D.fault_count device.new) result }
+    ensures fails { FailsWriting D.can_fail D.fault_count device.old device.new result }
 {
     match write_segment(device, alloc, number, &files.bytes, &files.sources) {
         Ok(()) => Ok(()),
@@ -167,12 +164,8 @@ impl Core {
         ensures spent { IfErr result (λ e. e ≡ Spent → MayNotFlush self.old) }
         ensures may { OnOk result (MayNotFlush self.old → ⊥) }
         ensures due { IfErr result (λ e. (e ≡ Memory) ⊎ (e ≡ Device) → MayNotFlush self.old → ⊥) }
-        ensures device { IfErr result (λ e. e ≡ Device → D.can_fail device.old) }
-        ensures counted { IfErr result (λ e. e ≡ Device → CountsOne (D.fault_count device.old) (D.fault_count device.new)) }
+        ensures fails { CountsFailures D.can_fail D.fault_count device.old device.new result }
         ensures quiet { OnOk result (D.fault_count device.new ≡ D.fault_count device.old) }
-        ensures memory { IfErr result (λ e. e ≡ Memory → D.fault_count device.new ≡ D.fault_count device.old) }
-        ensures can { D.can_fail device.new → D.can_fail device.old }
-        ensures rises { D.fault_count device.old ≤ D.fault_count device.new }
         ensures refusal { IfErr result (λ e. (e ≡ Memory) ⊎ (e ≡ Device) ⊎ (e ≡ Spent)) }
     {
         if self.buffer.is_empty() {

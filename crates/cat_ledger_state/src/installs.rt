@@ -10,7 +10,8 @@ ghost use Rattle.cat_model.specs.Layout.{SpellsSegment};
 ghost use Rattle.cat_model.specs.Merged.{AreDeletedFrom, rows_of_all};
 ghost use Rattle.cat_merge.specs.files.Making.{merged_leaves};
 ghost use Rattle.cat_lifetimes.specs.refs.Counts.{names_in};
-ghost use Rattle.cat_directory.specs.Devices.{CountsWriting, NoMore};
+ghost use Rattle.cat_directory.specs.Devices.{NoMore};
+ghost use Rattle.cat_directory.specs.Frames.{FailsWriting};
 ghost use Rattle.cat_directory.specs.Names.{name_of};
 ghost use Rattle.cat_directory.specs.declared.name.FileName.{FileName};
 ghost use Rattle.cat_ledger_laws.specs.model.Users.{users_of, times, Changes};
@@ -91,9 +92,7 @@ fn write_new<D: Directory>(
     ensures ok { OnOk result (AllByRecursion
         (λ leaf. TellsBytes (D.bytes device.new) (FileName.Segment number) (λ bytes. SpellsSegment bytes leaf.segment))
         (option_to_list merged.now)) }
-    ensures device { IfErr result (λ e. e ≡ Device → D.can_fail device.old) }
-    ensures counted { CountsWriting (D.fault_count device.old) (D.fault_count device.new) result }
-    ensures can { D.can_fail device.new → D.can_fail device.old }
+    ensures fails { FailsWriting D.can_fail D.fault_count device.old device.new result }
     ensures refusal { IfErr result (λ e. (e ≡ Memory) ⊎ (e ≡ Device)) }
 {
     match merged {
@@ -122,9 +121,7 @@ fn write_and_place<D: Directory>(
         (option_to_list merged)) }
     ensures ok { OnOk result (current.new ≡ placed_in current.old place.0 place.1 (option_to_list merged)) }
     ensures err { OnErr result (current.new ≡ current.old) }
-    ensures device { IfErr result (λ e. e ≡ Device → D.can_fail device.old) }
-    ensures counted { CountsWriting (D.fault_count device.old) (D.fault_count device.new) result }
-    ensures can { D.can_fail device.new → D.can_fail device.old }
+    ensures fails { FailsWriting D.can_fail D.fault_count device.old device.new result }
     ensures refusal { IfErr result (λ e. (e ≡ Memory) ⊎ (e ≡ Device)) }
 {
     write_new(device, alloc, &merged, number)?;
@@ -198,9 +195,7 @@ fn install_merged<D: Directory>(
     ensures err { OnErr result (current.new ≡ current.old) }
     ensures same { OnErr result ((q : Name) → users_of refs.new q ≡ users_of refs.old q) }
     ensures known { OnErr result (StayKnown refs.old refs.new) }
-    ensures device { IfErr result (λ e. e ≡ Device → D.can_fail device.old) }
-    ensures counted { CountsWriting (D.fault_count device.old) (D.fault_count device.new) result }
-    ensures can { D.can_fail device.new → D.can_fail device.old }
+    ensures fails { FailsWriting D.can_fail D.fault_count device.old device.new result }
     ensures refusal { IfErr result (λ e. (e ≡ Memory) ⊎ (e ≡ Device)) }
 {
     let number = merge.number();
@@ -226,9 +221,7 @@ impl Core {
         ensures known { OnErr result (StayKnown self.old.users self.new.users) }
         ensures crash { (q : FileName) → (IsOfMerge self.old.merging q → ⊥)
             → NoMore (D.may_leave device.old q) (D.may_leave device.new q) }
-        ensures device { IfErr result (λ e. e ≡ Device → D.can_fail device.old) }
-        ensures counted { CountsWriting (D.fault_count device.old) (D.fault_count device.new) result }
-        ensures can { D.can_fail device.new → D.can_fail device.old }
+        ensures fails { FailsWriting D.can_fail D.fault_count device.old device.new result }
         ensures rises { D.fault_count device.old ≤ D.fault_count device.new }
         ensures refusal { IfErr result (λ e. (e ≡ Memory) ⊎ (e ≡ Device)) }
     {

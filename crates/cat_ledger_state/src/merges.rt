@@ -6,7 +6,8 @@ ghost use Rattle.cat_base.specs.declared.refusal.Refusal.TheVariants.{Damaged, M
 ghost use Rattle.cat_model.specs.Files.{Name};
 ghost use Rattle.cat_model.specs.Limits.{last_number, row_limit};
 ghost use Rattle.cat_model.specs.Merged.{rows_of_all};
-ghost use Rattle.cat_directory.specs.Devices.{CountsOne, CountsReading, NoMore};
+ghost use Rattle.cat_directory.specs.Devices.{CountsReading, NoMore};
+ghost use Rattle.cat_directory.specs.Frames.{CountsFailures};
 ghost use Rattle.cat_directory.specs.declared.name.FileName.{FileName};
 ghost use Rattle.cat_ledger_laws.specs.model.Users.{users_of, times, Changes};
 ghost use Rattle.cat_ledger_laws.specs.shape.Steps.{IsBegun};
@@ -64,11 +65,7 @@ impl Core {
             → NoMore (D.may_leave device.old q) (D.may_leave device.new q) }
         ensures spent { IfErr result (λ e. e ≡ Spent → last_number < self.old.next_segment) }
         ensures due { IfErr result (λ e. (e ≡ Memory) ⊎ (e ≡ Device) → self.old.next_segment ≤ last_number) }
-        ensures device { IfErr result (λ e. e ≡ Device → D.can_fail device.old) }
-        ensures counted { IfErr result (λ e. e ≡ Device → CountsOne (D.fault_count device.old) (D.fault_count device.new)) }
-        ensures memory { IfErr result (λ e. e ≡ Memory → D.fault_count device.new ≡ D.fault_count device.old) }
-        ensures can { D.can_fail device.new → D.can_fail device.old }
-        ensures rises { D.fault_count device.old ≤ D.fault_count device.new }
+        ensures fails { CountsFailures D.can_fail D.fault_count device.old device.new result }
         ensures refusal { IfErr result (λ e. (e ≡ Memory) ⊎ (e ≡ Device) ⊎ (e ≡ Spent)) }
     {
         let number = self.next_segment;

@@ -16,7 +16,6 @@ use std::marker::Model;
 /// holds, with a `SearcherLifetimeManager`, a `SnapshotDeletionPolicy` and an `IndexFileDeleter`.)
 ///
 /// Contracts see it as its shape: it is that of a ledger of the model, whose sources stand in files.
-#[derive(Drop)]
 pub struct Core {
     pub(crate) alloc: Global,
     pub(crate) schema: Schema,
@@ -51,4 +50,33 @@ impl Model for Core {
     ghost view = { shape_of_core };
 
     ghost invariant = { IsCore };
+}
+
+impl Drop for Core {
+    fn drop(self) {
+        let Core {
+            alloc: _,
+            schema,
+            current,
+            buffer,
+            count: _,
+            records,
+            commits,
+            listing,
+            snapshots,
+            merging,
+            refs,
+            next_segment: _,
+            next_generation: _,
+        } = self;
+        drop(schema);
+        drop(current);
+        drop(buffer);
+        drop(records);
+        drop(commits);
+        drop(listing);
+        drop(snapshots);
+        drop(merging);
+        drop(refs);
+    }
 }

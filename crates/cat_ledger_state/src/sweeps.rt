@@ -4,7 +4,8 @@
 ghost use Rattle.std.specs.Prelude.{◌≡◌, ◌<◌, ◌==◌, [], false, count_by, IfOk, IfErr, OnOk, ◌≤◌};
 ghost use Rattle.cat_base.specs.declared.refusal.Refusal.TheVariants.{Memory, Device};
 ghost use Rattle.cat_model.specs.Files.{Name};
-ghost use Rattle.cat_directory.specs.Devices.{CountsWriting, NoMore};
+ghost use Rattle.cat_directory.specs.Devices.{NoMore};
+ghost use Rattle.cat_directory.specs.Frames.{FailsWriting};
 ghost use Rattle.cat_directory.specs.Names.{name_of};
 ghost use Rattle.cat_directory.specs.declared.name.FileName.{FileName};
 ghost use Rattle.cat_ledger_laws.specs.model.Users.{users_of};
@@ -36,10 +37,8 @@ impl Core {
             × ((q : FileName) → D.bytes device.new q ≡ D.bytes device.old q)
             × ((q : FileName) → NoMore (D.may_leave device.old q) (D.may_leave device.new q))) }
         ensures stays { IfErr result (λ e. e ≡ Device → (q : FileName) × IsPending self.new.users q) }
-        ensures device { IfErr result (λ e. e ≡ Device → D.can_fail device.old) }
-        ensures can { D.can_fail device.new → D.can_fail device.old }
+        ensures fails { FailsWriting D.can_fail D.fault_count device.old device.new result }
         ensures rises { D.fault_count device.old ≤ D.fault_count device.new }
-        ensures counted { CountsWriting (D.fault_count device.old) (D.fault_count device.new) result }
     {
         self.refs.sweep(self.alloc, device)
     }

@@ -6,7 +6,8 @@ ghost use Rattle.cat_base.specs.declared.refusal.Refusal.TheVariants.{Kind, Devi
 ghost use Rattle.cat_model.specs.CommitFile.{commit_needs};
 ghost use Rattle.cat_model.specs.Files.{Name};
 ghost use Rattle.cat_model.specs.Limits.{last_number};
-ghost use Rattle.cat_directory.specs.Devices.{CountsWriting, IsSettled, NoMore};
+ghost use Rattle.cat_directory.specs.Devices.{CountsWriting, IsSettled};
+ghost use Rattle.cat_directory.specs.Frames.{FailsWriting, OnlyReads};
 ghost use Rattle.cat_directory.specs.Names.{name_of};
 ghost use Rattle.cat_ledger_laws.specs.model.Ledger.{IsTaken};
 ghost use Rattle.cat_ledger_laws.specs.model.Opening.{IsForeign, IsRestored};
@@ -39,11 +40,8 @@ struct Found {
 /// Reads the names of the directory. Nobody uses one yet.
 fn find<D: Directory>(alloc: Global, device: &mut D) -> Result<Found, Refusal>
     ensures ok { IfOk result (λ f. TellsNames (D.bytes device.old) f.refs f.next.0 f.next.1 f.newest) }
-    ensures device { IfErr result (λ e. e ≡ Device → D.can_fail device.old) }
-    ensures same { (q : FileName) → D.bytes device.new q ≡ D.bytes device.old q }
-    ensures crash { (q : FileName) → NoMore (D.may_leave device.old q) (D.may_leave device.new q) }
-    ensures can { D.can_fail device.new → D.can_fail device.old }
-    ensures counted { CountsWriting (D.fault_count device.old) (D.fault_count device.new) result }
+    ensures fails { FailsWriting D.can_fail D.fault_count device.old device.new result }
+    ensures frame { OnlyReads D.bytes D.may_leave D.can_fail device.old device.new }
 {
     let names = device.names(alloc)?;
     let refs = known_names(alloc, &names)?;
@@ -60,9 +58,7 @@ fn sync_needed<D: Directory>(device: &mut D, commit: &Commit) -> Result<(), Refu
         → IsSettled (D.bytes device.old q) (D.may_leave device.new q)) }
     ensures device { IfErr result (λ e. e ≡ Device → D.can_fail device.old
         ⊎ ((q : FileName) × (has_name (name_of q) (commit_needs commit.now) ≡ true) × (D.bytes device.old q ≡ Some None))) }
-    ensures same { (q : FileName) → D.bytes device.new q ≡ D.bytes device.old q }
-    ensures crash { (q : FileName) → NoMore (D.may_leave device.old q) (D.may_leave device.new q) }
-    ensures can { D.can_fail device.new → D.can_fail device.old }
+    ensures frame { OnlyReads D.bytes D.may_leave D.can_fail device.old device.new }
     ensures counted { CountsWriting (D.fault_count device.old) (D.fault_count device.new) result }
 {
     let needed = commit.names()?;
@@ -85,9 +81,7 @@ fn read_synced<D: Directory + Shelf>(
     ensures own { IfErr result (λ e. e ≡ Damaged → IsForeign (Tells (D.bytes device.old)) schema.now generation → ⊥) }
     ensures foreign { IfErr result (λ e. e ≡ Kind → IsForeign (MayHold (D.bytes device.old)) schema.now generation) }
     ensures device { IfErr result (λ e. e ≡ Device → D.can_fail device.old) }
-    ensures same { (q : FileName) → D.bytes device.new q ≡ D.bytes device.old q }
-    ensures crash { (q : FileName) → NoMore (D.may_leave device.old q) (D.may_leave device.new q) }
-    ensures can { D.can_fail device.new → D.can_fail device.old }
+    ensures frame { OnlyReads D.bytes D.may_leave D.can_fail device.old device.new }
     ensures counted { CountsOpening (D.fault_count device.old) (D.fault_count device.new) result }
 {
     let restored = read_commit(alloc, device, schema, generation)?;
@@ -139,9 +133,7 @@ fn open_at<D: Directory + Shelf>(
     ensures own { IfErr result (λ e. e ≡ Damaged → IsForeign (Tells (D.bytes device.old)) schema generation → ⊥) }
     ensures foreign { IfErr result (λ e. e ≡ Kind → IsForeign (MayHold (D.bytes device.old)) schema generation) }
     ensures device { IfErr result (λ e. e ≡ Device → D.can_fail device.old) }
-    ensures same { (q : FileName) → D.bytes device.new q ≡ D.bytes device.old q }
-    ensures crash { (q : FileName) → NoMore (D.may_leave device.old q) (D.may_leave device.new q) }
-    ensures can { D.can_fail device.new → D.can_fail device.old }
+    ensures frame { OnlyReads D.bytes D.may_leave D.can_fail device.old device.new }
     ensures counted { CountsOpening (D.fault_count device.old) (D.fault_count device.new) result }
 {
     let restored = read_synced(alloc, device, &schema, generation)?;
@@ -160,11 +152,8 @@ fn open_empty<D: Directory>(
     ensures ok { IfOk result (λ s. s ≡ empty_at schema refs next.0 next.1) }
     ensures gone { OnOk result ((q : FileName) → D.bytes device.old q ≡ Some None
         → IsSettled (D.bytes device.old q) (D.may_leave device.new q)) }
-    ensures device { IfErr result (λ e. e ≡ Device → D.can_fail device.old) }
-    ensures same { (q : FileName) → D.bytes device.new q ≡ D.bytes device.old q }
-    ensures crash { (q : FileName) → NoMore (D.may_leave device.old q) (D.may_leave device.new q) }
-    ensures can { D.can_fail device.new → D.can_fail device.old }
-    ensures counted { CountsWriting (D.fault_count device.old) (D.fault_count device.new) result }
+    ensures fails { FailsWriting D.can_fail D.fault_count device.old device.new result }
+    ensures frame { OnlyReads D.bytes D.may_leave D.can_fail device.old device.new }
 {
     device.sync(&[])?;
     Ok(Core::empty(alloc, schema, refs, next.0, next.1)?)
@@ -193,9 +182,7 @@ pub fn open<D: Directory + Shelf>(
     ensures damaged { IfErr result (λ e. e ≡ Damaged → IsNewestDamaged (D.bytes device.old) schema) }
     ensures foreign { IfErr result (λ e. e ≡ Kind → IsNewestForeign (D.bytes device.old) schema) }
     ensures device { IfErr result (λ e. e ≡ Device → D.can_fail device.old) }
-    ensures same { (q : FileName) → D.bytes device.new q ≡ D.bytes device.old q }
-    ensures crash { (q : FileName) → NoMore (D.may_leave device.old q) (D.may_leave device.new q) }
-    ensures can { D.can_fail device.new → D.can_fail device.old }
+    ensures frame { OnlyReads D.bytes D.may_leave D.can_fail device.old device.new }
     ensures counted { CountsOpening (D.fault_count device.old) (D.fault_count device.new) result }
 {
     let Found { refs, next, newest } = find(alloc, device)?;

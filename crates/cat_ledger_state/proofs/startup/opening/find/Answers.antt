@@ -27,11 +27,8 @@ returns-clause-ok g c = record {
       c.newest_commit-newest.ensures;
 }
 
-pub returns-clause-same : goal.returns-clause-same
-returns-clause-same g c = c.in_ok-names.ensures.same
+pub returns-clause-frame : goal.returns-clause-frame
+returns-clause-frame g c = record { same = c.in_ok-names.ensures.same; crash = c.in_ok-names.ensures.crash; can = c.in_ok-names.ensures.can }
 
-pub returns-clause-crash : goal.returns-clause-crash
-returns-clause-crash g c = c.in_ok-names.ensures.crash
-
-pub returns-clause-counted : goal.returns-clause-counted
-returns-clause-counted g c = c.in_ok-names.ensures.counted
+pub returns-clause-fails : goal.returns-clause-fails
+returns-clause-fails g c = record { device = tt; counted = c.in_ok-names.ensures.counted; can = c.in_ok-names.ensures.can }

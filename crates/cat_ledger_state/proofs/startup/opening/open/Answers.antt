@@ -34,34 +34,34 @@ returns-in-Some-clause-ok g c =
     ok_of_both c.open_at.result _ _ _
     (λ s at more.
     inl
-    (at_commit told told' c.args.schema c.in_ok-refs.ensures.ok.names c.in-Some.generation next.0 next.1 c.in_ok-refs.field-0.refs s (λ q. c.open_at.ensures.same q ∙ c.in_ok-refs.ensures.same q)
-    c.in_ok-refs.ensures.ok.listed c.in_ok-refs.ensures.ok.next newest c.in_ok-refs.ensures.ok.known more (restored_as_told told mid c.in_ok-refs.ensures.same c.args.schema c.in-Some.generation next.0 next.1 s at)))
+    (at_commit told told' c.args.schema c.in_ok-refs.ensures.ok.names c.in-Some.generation next.0 next.1 c.in_ok-refs.field-0.refs s (λ q. c.open_at.ensures.frame.same q ∙ c.in_ok-refs.ensures.frame.same q)
+    c.in_ok-refs.ensures.ok.listed c.in_ok-refs.ensures.ok.next newest c.in_ok-refs.ensures.ok.known more (restored_as_told told mid c.in_ok-refs.ensures.frame.same c.args.schema c.in-Some.generation next.0 next.1 s at)))
     c.open_at.ensures.ok c.open_at.ensures.known
 
 pub returns-in-Some-clause-lasts : goal.returns-in-Some-clause-lasts
 returns-in-Some-clause-lasts g c =
     IfOk-weaker c.open_at.result _ _
-    (λ s lasts q some. told_settled (g.D.Holder.bytes c.args.device.now) (g.D.Holder.bytes c.find.new.device) c.in_ok-refs.ensures.same (g.D.Holder.may_leave c.open_at.new.device) q (lasts q some))
+    (λ s lasts q some. told_settled (g.D.Holder.bytes c.args.device.now) (g.D.Holder.bytes c.find.new.device) c.in_ok-refs.ensures.frame.same (g.D.Holder.may_leave c.open_at.new.device) q (lasts q some))
     c.open_at.ensures.lasts
 
 pub returns-in-Some-clause-gone : goal.returns-in-Some-clause-gone
 returns-in-Some-clause-gone g c =
     IfOk-weaker c.open_at.result _ _
-    (λ s gone q none. told_settled (g.D.Holder.bytes c.args.device.now) (g.D.Holder.bytes c.find.new.device) c.in_ok-refs.ensures.same (g.D.Holder.may_leave c.open_at.new.device) q (gone q (c.in_ok-refs.ensures.same q ∙ none)))
+    (λ s gone q none. told_settled (g.D.Holder.bytes c.args.device.now) (g.D.Holder.bytes c.find.new.device) c.in_ok-refs.ensures.frame.same (g.D.Holder.may_leave c.open_at.new.device) q (gone q (c.in_ok-refs.ensures.frame.same q ∙ none)))
     c.open_at.ensures.gone
 
 pub returns-in-Some-clause-damaged : goal.returns-in-Some-clause-damaged
 returns-in-Some-clause-damaged g c =
     let newest = subst (λ o. MatchOption o ((h : ℕ) → Contains c.in_ok-refs.ensures.ok.names (file.Commit h) → ⊥) (IsNewest c.in_ok-refs.ensures.ok.names)) c.in-Some.is c.in_ok-refs.ensures.ok.among in
     err_of_both c.open_at.result _ _ _
-    (λ e lost own is. is_damaged (g.D.Holder.bytes c.args.device.now) (g.D.Holder.bytes c.find.new.device) c.in_ok-refs.ensures.same c.args.schema c.in_ok-refs.ensures.ok.names c.in-Some.generation c.in_ok-refs.ensures.ok.listed newest (lost is) (own is))
+    (λ e lost own is. is_damaged (g.D.Holder.bytes c.args.device.now) (g.D.Holder.bytes c.find.new.device) c.in_ok-refs.ensures.frame.same c.args.schema c.in_ok-refs.ensures.ok.names c.in-Some.generation c.in_ok-refs.ensures.ok.listed newest (lost is) (own is))
     c.open_at.ensures.damaged c.open_at.ensures.own
 
 pub returns-in-Some-clause-foreign : goal.returns-in-Some-clause-foreign
 returns-in-Some-clause-foreign g c =
     let newest = subst (λ o. MatchOption o ((h : ℕ) → Contains c.in_ok-refs.ensures.ok.names (file.Commit h) → ⊥) (IsNewest c.in_ok-refs.ensures.ok.names)) c.in-Some.is c.in_ok-refs.ensures.ok.among in
     IfErr-weaker c.open_at.result _ _
-    (λ e foreign is. is_foreign (g.D.Holder.bytes c.args.device.now) (g.D.Holder.bytes c.find.new.device) c.in_ok-refs.ensures.same c.args.schema c.in_ok-refs.ensures.ok.names c.in-Some.generation c.in_ok-refs.ensures.ok.listed newest (foreign is))
+    (λ e foreign is. is_foreign (g.D.Holder.bytes c.args.device.now) (g.D.Holder.bytes c.find.new.device) c.in_ok-refs.ensures.frame.same c.args.schema c.in_ok-refs.ensures.ok.names c.in-Some.generation c.in_ok-refs.ensures.ok.listed newest (foreign is))
     c.open_at.ensures.foreign
 
 pub returns-in-None-clause-ok : goal.returns-in-None-clause-ok
@@ -85,5 +85,5 @@ returns-in-None-clause-ok g c =
 pub returns-in-None-clause-gone : goal.returns-in-None-clause-gone
 returns-in-None-clause-gone g c =
     IfOk-weaker c.open_empty.result _ _
-    (λ s gone q none. told_settled (g.D.Holder.bytes c.args.device.now) (g.D.Holder.bytes c.find.new.device) c.in_ok-refs.ensures.same (g.D.Holder.may_leave c.open_empty.new.device) q (gone q (c.in_ok-refs.ensures.same q ∙ none)))
+    (λ s gone q none. told_settled (g.D.Holder.bytes c.args.device.now) (g.D.Holder.bytes c.find.new.device) c.in_ok-refs.ensures.frame.same (g.D.Holder.may_leave c.open_empty.new.device) q (gone q (c.in_ok-refs.ensures.frame.same q ∙ none)))
     c.open_empty.ensures.gone
