@@ -34,7 +34,7 @@ use Rattle.cat_ledger_state.specs.Cores.{flush_begins, is_begun}
 use Rattle.cat_ledger_state.specs.Installs.{IsOfMerge}
 use Rattle.cat_ledger_state.specs.startup.Opened.{HasOpened}
 use Rattle.cat_ledger.specs.upkeep.Spared.{SparesCommits}
-use Rattle.cat_ledger.specs.Histories.{Call, Event, FoundIsTaken, FoundIsTried, Goes, GoesRefused, IsAnswered, IsCrashed, IsHistory, IsLastAnswered, IsPastNewest, IsTried, IsUnanswered, LeavesNoneAhead, MayHaveTried, NewestIsAnswered, NewestIsFound, NoneIsAhead, NoneIsLost, SparesOtherCommits, events_of, newest_after, newest_commit_in, image_tells}
+use Rattle.cat_ledger.specs.Histories.{Call, Event, FoundIsTaken, FoundIsTried, Goes, GoesOn, GoesRefused, IsAnswered, IsCrashed, IsHistory, IsLastAnswered, IsPastNewest, IsTried, IsUnanswered, LeavesNoneAhead, MayHaveTried, NewestIsAnswered, NewestIsFound, NoneIsAhead, NoneIsLost, SparesOtherCommits, events_of, newest_after, newest_commit_in, image_tells}
 use Rattle.cat_ledger.specs.Lasting.{AlwaysTells, IsCarried, IsLasting, NewestLasts, needs_of, newest_needs}
 use Rattle.cat_ledger.specs.Ledgers.{LedgerOnDevice, device_in, shape_in}
 use Rattle.cat_ledger.proofs.Lasting.{LetsCommits, carried_shape, commits_on, newest_old, next_on}
@@ -192,6 +192,15 @@ module _ {D : Type 0} (bytes : D → ToldFiles) (left : D → FileName → FileC
     spared = still_spared (left (device_in l)) (left (device_in l)) (shape_in l) (shape_in l) refl refl refl (λ q e after. after);
     tried = λ t no. absurd (other_none t no);
   }
+
+  pub nothing_goes_on : (l : LedgerOnDevice D) → GoesOn bytes left l l
+  nothing_goes_on l = record { history = nothing_goes l; policy = refl }
+
+  -- the policy stays beside what a call makes of commits
+  pub goes_so : {d d' : D} {s s' : Shape} {policy : plans.MergePolicy}
+      → Goes bytes left Event.Other (record { device = d; core = s; policy = policy }) (record { device = d'; core = s'; policy = policy })
+      → GoesOn bytes left (record { device = d; core = s; policy = policy }) (record { device = d'; core = s'; policy = policy })
+  goes_so goes = record { history = goes; policy = refl }
 
   -- a call that leaves the files, the commits, the numbers and the merge in the making as they are,
   pub memory_goes : (d : D) (s s' : Shape) (policy policy' : plans.MergePolicy) → newest_generation s'.commits ≡ newest_generation s.commits

@@ -15,7 +15,7 @@ use Rattle.cat_ledger_laws.specs.shape.Tried.{IsFreshAhead, IsTriedCommit, Leave
 use Rattle.cat_ledger_laws.specs.lines.TriedLaws.{IsPromisedBy}
 use Rattle.cat_ledger_state.specs.startup.Newest.{HasNoCommit, IsNewestCommit}
 use Rattle.cat_ledger.specs.Lasting.{AlwaysTells, IsLasting, newest_needs}
-use Rattle.cat_ledger.specs.Ledgers.{LedgerOnDevice, device_in, shape_in}
+use Rattle.cat_ledger.specs.Ledgers.{LedgerOnDevice, device_in, policy_in, shape_in}
 use Rattle.cat_ledger.specs.upkeep.Spared.{SparesCommits}
 
 -- ---- what a call has to do with commits
@@ -69,6 +69,11 @@ pub record Goes {D : Type 0} (bytes : D → ToldFiles) (left : D → FileName �
   pub tried : (t : TriedCommit) → event ≡ Event.Refused t → AlwaysTells bytes
       → (IsFreshAhead (left (device_in old)) (shape_in old) → IsTriedCommit (left (device_in new)) (shape_in new) t)
       × IsPromisedBy (bytes (device_in old)) (shape_in old) t
+
+-- What a call leaves that is for no commit: it makes nothing of commits, and the policy stays.
+pub record GoesOn {D : Type 0} (bytes : D → ToldFiles) (left : D → FileName → FileContent → Type 0) (old new : LedgerOnDevice D) : Type 0 where
+  pub history : Goes bytes left Event.Other old new
+  pub policy : policy_in new ≡ policy_in old
 
 -- What a refused commit of this text makes of commits: nothing, or it tried one of this text.
 abbrev pub GoesRefused : {D : Type 0} → (D → ToldFiles) → (D → FileName → FileContent → Type 0) → Text → LedgerOnDevice D → LedgerOnDevice D → Type 0

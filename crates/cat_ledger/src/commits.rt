@@ -1,9 +1,10 @@
 //! Commits and snapshots.
 //!
 //! Lucene's `IndexWriter.commit` with `setLiveCommitData`, under a `SnapshotDeletionPolicy` over a `KeepOnlyLastCommitDeletionPolicy`.
+ghost use Rattle.cat_directory.specs.Frames.{CountsFailures};
 ghost use Rattle.cat_ledger_laws.specs.lines.LineLaws.{Commits};
 ghost use Rattle.cat_base.specs.declared.refusal.Refusal.TheVariants.{Device, Memory, NoCommit, NoSnapshot, Spent};
-ghost use Rattle.cat_ledger.specs.Histories.{Event, Goes, GoesRefused, MayHaveTried, SparesOtherCommits};
+ghost use Rattle.cat_ledger.specs.Histories.{Event, Goes, GoesOn, GoesRefused, MayHaveTried, SparesOtherCommits};
 ghost use Rattle.cat_ledger.specs.Lasting.{IsCarried, IsLasting, OwnComesLast};
 ghost use Rattle.cat_ledger.specs.Ledgers.{DoesCall, Spares, device_in, policy_in, shape_in};
 ghost use Rattle.cat_ledger.specs.Refusals.{KeepsMerge};
@@ -101,11 +102,7 @@ impl<D: Directory + Shelf> Ledger<D> {
         ensures order { OwnComesLast (D.bytes (device_in self.old)) (D.may_leave (device_in self.old)) (shape_in self.old)
             (D.bytes (device_in self.new)) (D.may_leave (device_in self.new)) (shape_in self.new).leaves }
         ensures refusal { commit_text_of text.now ≡ Ok text.now → IfErr result (λ e. (e ≡ Memory) ⊎ (e ≡ Device) ⊎ (e ≡ Spent)) }
-        ensures device { commit_text_of text.now ≡ Ok text.now → IfErr result (λ e. e ≡ Device → D.can_fail (device_in self.old)) }
-        ensures counted { commit_text_of text.now ≡ Ok text.now → IfErr result (λ e. e ≡ Device → CountsOne (D.fault_count (device_in self.old)) (D.fault_count (device_in self.new))) }
-        ensures memory { IfErr result (λ e. e ≡ Memory → D.fault_count (device_in self.new) ≡ D.fault_count (device_in self.old)) }
-        ensures can { D.can_fail (device_in self.new) → D.can_fail (device_in self.old) }
-        ensures rises { D.fault_count (device_in self.old) ≤ D.fault_count (device_in self.new) }
+        ensures fails { CountsFailures D.can_fail D.fault_count (device_in self.old) (device_in self.new) result }
         ensures answered { IfOk result (λ g. Goes D.bytes D.may_leave (Event.Answered g) self.old self.new) }
         ensures refused { OnErr result (GoesRefused D.bytes D.may_leave text.now self.old self.new) }
         ensures policy { policy_in self.new ≡ policy_in self.old }
@@ -135,8 +132,7 @@ impl<D: Directory + Shelf> Ledger<D> {
         ensures refusal { IfErr result (λ e. (e ≡ NoCommit) ⊎ (e ≡ Spent) ⊎ (e ≡ Memory)) }
         ensures err { OnErr result (self.new ≡ self.old) }
         ensures same { device_in self.new ≡ device_in self.old }
-        ensures history { Goes D.bytes D.may_leave Event.Other self.old self.new }
-        ensures policy { policy_in self.new ≡ policy_in self.old }
+        ensures goes { GoesOn D.bytes D.may_leave self.old self.new }
     {
         let generation = self.core.snapshot()?;
         Ok(generation)
@@ -156,8 +152,7 @@ impl<D: Directory + Shelf> Ledger<D> {
         ensures refusal { IfErr result (λ e. (e ≡ NoSnapshot) ⊎ (e ≡ Memory)) }
         ensures err { OnErr result (self.new ≡ self.old) }
         ensures same { device_in self.new ≡ device_in self.old }
-        ensures history { Goes D.bytes D.may_leave Event.Other self.old self.new }
-        ensures policy { policy_in self.new ≡ policy_in self.old }
+        ensures goes { GoesOn D.bytes D.may_leave self.old self.new }
     {
         let left = self.core.unsnapshot(generation)?;
         Ok(left)

@@ -21,7 +21,6 @@ use std::marker::Model;
 ///
 /// Whatever was called, and whatever it answered: these stand for some ledger of the model, and a crash leaves every file of
 /// the newest commit as it is ([`newest_lasts`](Ledger::newest_lasts)).
-#[derive(Drop)]
 pub struct Ledger<D: Directory + Shelf> {
     pub(crate) alloc: Global,
     pub(crate) device: D,
@@ -38,6 +37,20 @@ impl<D: Directory + Shelf> Model for Ledger<D> {
     ghost view = { λ l. record { device = l.device; core = l.core; policy = l.policy } };
 
     ghost invariant = { λ l. IsLasting D.bytes D.may_leave l.device l.core };
+}
+
+// By hand: what is derived is proved anew in each crate that lets a ledger go, down to the last field of a segment.
+impl<D: Directory + Shelf + Drop> Drop for Ledger<D> {
+    fn drop(self) {
+        let Ledger {
+            alloc: _,
+            device,
+            core,
+            policy: _,
+        } = self;
+        drop(device);
+        drop(core);
+    }
 }
 
 impl<D: Directory + Shelf> Ledger<D> {

@@ -1,7 +1,7 @@
 //! Merges, step by step: of the segments that the policy picks, or of all.
 //!
 //! Lucene's `IndexWriter.maybeMerge` with a `LogDocMergePolicy`, and `forceMerge(1)`; there a scheduler's threads run a merge whole.
-ghost use Rattle.cat_directory.specs.Devices.{CountsOne};
+ghost use Rattle.cat_directory.specs.Frames.{CountsFailures};
 ghost use Rattle.std.specs.Prelude.{◌≡◌, ◌≢◌, ◌⊎◌, ◌<◌, ◌≤◌, None, IfOk, IfErr, OnErr};
 ghost use Rattle.cat_base.specs.declared.refusal.Refusal.TheVariants.{Memory, Device, Damaged, Spent};
 ghost use Rattle.cat_model.specs.Limits.{last_number};
@@ -10,7 +10,7 @@ ghost use Rattle.cat_ledger_laws.specs.model.Replies.{Maintains, IsLeft};
 ghost use Rattle.cat_ledger_state.specs.Cores.{HasRowsLeft, LacksInput, LacksToCopy, MayCopy};
 ghost use Rattle.cat_ledger.specs.upkeep.Due.{IsForceDue, IsMergeDue};
 ghost use Rattle.cat_ledger.specs.upkeep.News.{news_of};
-ghost use Rattle.cat_ledger.specs.Histories.{Event, Goes};
+ghost use Rattle.cat_ledger.specs.Histories.{GoesOn};
 ghost use Rattle.cat_ledger.specs.Ledgers.{DoesCall, Spares, device_in, policy_in, shape_in};
 ghost use Rattle.cat_ledger.specs.Refusals.{HasUntoldInput, KeepsMerge, KeepsSegments};
 
@@ -43,13 +43,8 @@ impl<D: Directory + Shelf> Ledger<D> {
         ensures short { IfErr result (λ e. e ≡ Damaged → LacksInput (D.bytes (device_in self.old)) (shape_in self.old).merging) }
         ensures untold { IfErr result (λ e. e ≡ Damaged → HasUntoldInput (D.bytes (device_in self.old)) (shape_in self.old).merging) }
         ensures reach { IfErr result (λ e. e ≡ Memory → MayCopy (D.bytes (device_in self.old)) (shape_in self.old).merging) }
-        ensures device { IfErr result (λ e. e ≡ Device → D.can_fail (device_in self.old)) }
-        ensures counted { IfErr result (λ e. e ≡ Device → CountsOne (D.fault_count (device_in self.old)) (D.fault_count (device_in self.new))) }
-        ensures memory { IfErr result (λ e. e ≡ Memory → D.fault_count (device_in self.new) ≡ D.fault_count (device_in self.old)) }
-        ensures can { D.can_fail (device_in self.new) → D.can_fail (device_in self.old) }
-        ensures rises { D.fault_count (device_in self.old) ≤ D.fault_count (device_in self.new) }
-        ensures history { Goes D.bytes D.may_leave Event.Other self.old self.new }
-        ensures policy { policy_in self.new ≡ policy_in self.old }
+        ensures fails { CountsFailures D.can_fail D.fault_count (device_in self.old) (device_in self.new) result }
+        ensures goes { GoesOn D.bytes D.may_leave self.old self.new }
         ensures refusal { IfErr result (λ e. (e ≡ Memory) ⊎ (e ≡ Device) ⊎ (e ≡ Damaged) ⊎ (e ≡ Spent)) }
     {
         crate::upkeep::merge_step(&mut self.core, &mut self.device, self.alloc, self.policy)
@@ -72,13 +67,8 @@ impl<D: Directory + Shelf> Ledger<D> {
         ensures due { OnErr result (IsForceDue (shape_in self.old)) }
         ensures spent { IfErr result (λ e. e ≡ Spent → last_number < (shape_in self.old).next_segment) }
         ensures left { IfErr result (λ e. (e ≡ Memory) ⊎ (e ≡ Device) → (shape_in self.old).next_segment ≤ last_number) }
-        ensures device { IfErr result (λ e. e ≡ Device → D.can_fail (device_in self.old)) }
-        ensures counted { IfErr result (λ e. e ≡ Device → CountsOne (D.fault_count (device_in self.old)) (D.fault_count (device_in self.new))) }
-        ensures memory { IfErr result (λ e. e ≡ Memory → D.fault_count (device_in self.new) ≡ D.fault_count (device_in self.old)) }
-        ensures can { D.can_fail (device_in self.new) → D.can_fail (device_in self.old) }
-        ensures rises { D.fault_count (device_in self.old) ≤ D.fault_count (device_in self.new) }
-        ensures history { Goes D.bytes D.may_leave Event.Other self.old self.new }
-        ensures policy { policy_in self.new ≡ policy_in self.old }
+        ensures fails { CountsFailures D.can_fail D.fault_count (device_in self.old) (device_in self.new) result }
+        ensures goes { GoesOn D.bytes D.may_leave self.old self.new }
         ensures refusal { IfErr result (λ e. (e ≡ Memory) ⊎ (e ≡ Device) ⊎ (e ≡ Spent)) }
     {
         crate::upkeep::force(&mut self.core, &mut self.device)

@@ -1,4 +1,5 @@
 //! Room in the buffer: a flush where it is full, or where nothing may wait.
+ghost use Rattle.cat_directory.specs.Frames.{CountsFailures};
 ghost use Rattle.cat_base.specs.declared.refusal.Refusal.TheVariants.{Device, Memory, Spent};
 ghost use Rattle.cat_directory.specs.declared.name.FileName.{FileName};
 ghost use Rattle.cat_ledger_laws.specs.model.Calls.{Flushes};
@@ -7,7 +8,7 @@ ghost use Rattle.cat_ledger_laws.specs.model.Replies.{IsLeft, MakesRoom};
 ghost use Rattle.cat_ledger_laws.specs.model.Ledger.{IsNew};
 ghost use Rattle.cat_ledger_laws.specs.shape.Ties.{Makes};
 ghost use Rattle.cat_ledger_state.specs.Cores.{HasFlushed, MayNotFlush, StayKnown};
-ghost use Rattle.cat_directory.specs.Devices.{CountsOne, NoMore};
+ghost use Rattle.cat_directory.specs.Devices.{NoMore};
 ghost use Rattle.cat_model.specs.Limits.{buffer_limit};
 ghost use Rattle.cat_directory.specs.Names.{name_of};
 ghost use Rattle.cat_ledger.specs.upkeep.Spared.{SparesCommits, TouchesNoCommit};
@@ -35,12 +36,8 @@ pub(crate) fn flush<D: Directory>(core: &mut Core, device: &mut D) -> Result<(),
     ensures commits { SparesCommits (D.may_leave device.old) (D.may_leave device.new) }
     ensures spent { IfErr result (λ e. e ≡ Spent → MayNotFlush core.old) }
     ensures due { IfErr result (λ e. (e ≡ Memory) ⊎ (e ≡ Device) → MayNotFlush core.old → ⊥) }
-    ensures device { IfErr result (λ e. e ≡ Device → D.can_fail device.old) }
-    ensures counted { IfErr result (λ e. e ≡ Device → CountsOne (D.fault_count device.old) (D.fault_count device.new)) }
-    ensures memory { IfErr result (λ e. e ≡ Memory → D.fault_count device.new ≡ D.fault_count device.old) }
+    ensures fails { CountsFailures D.can_fail D.fault_count device.old device.new result }
     ensures quiet { OnOk result (D.fault_count device.new ≡ D.fault_count device.old) }
-    ensures can { D.can_fail device.new → D.can_fail device.old }
-    ensures rises { D.fault_count device.old ≤ D.fault_count device.new }
     ensures refusal { IfErr result (λ e. (e ≡ Memory) ⊎ (e ≡ Device) ⊎ (e ≡ Spent)) }
 {
     if let Err(refusal) = core.flush(device) {
@@ -64,12 +61,8 @@ pub(crate) fn make_room<D: Directory>(core: &mut Core, device: &mut D) -> Result
     ensures commits { SparesCommits (D.may_leave device.old) (D.may_leave device.new) }
     ensures spent { IfErr result (λ e. e ≡ Spent → (buffer_limit ≤ length core.old.buffered) × MayNotFlush core.old) }
     ensures due { IfErr result (λ e. (e ≡ Memory) ⊎ (e ≡ Device) → MayNotFlush core.old → ⊥) }
-    ensures device { IfErr result (λ e. e ≡ Device → D.can_fail device.old) }
-    ensures counted { IfErr result (λ e. e ≡ Device → CountsOne (D.fault_count device.old) (D.fault_count device.new)) }
-    ensures memory { IfErr result (λ e. e ≡ Memory → D.fault_count device.new ≡ D.fault_count device.old) }
+    ensures fails { CountsFailures D.can_fail D.fault_count device.old device.new result }
     ensures quiet { OnOk result (D.fault_count device.new ≡ D.fault_count device.old) }
-    ensures can { D.can_fail device.new → D.can_fail device.old }
-    ensures rises { D.fault_count device.old ≤ D.fault_count device.new }
     ensures refusal { IfErr result (λ e. (e ≡ Memory) ⊎ (e ≡ Device) ⊎ (e ≡ Spent)) }
 {
     if !core.is_due() {

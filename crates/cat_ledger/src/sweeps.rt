@@ -1,13 +1,14 @@
 //! The sweep: the files go that nobody needs.
 //!
 //! Lucene's `IndexWriter.deleteUnusedFiles`.
+ghost use Rattle.cat_directory.specs.Frames.{CountsFailures};
 ghost use Rattle.cat_base.specs.declared.refusal.Refusal.TheVariants.{Device, Memory};
-ghost use Rattle.cat_ledger.specs.Histories.{Event, Goes};
-ghost use Rattle.cat_ledger.specs.Ledgers.{DoesCall, device_in, policy_in, shape_in};
+ghost use Rattle.cat_ledger.specs.Histories.{GoesOn};
+ghost use Rattle.cat_ledger.specs.Ledgers.{DoesCall, device_in, shape_in};
 ghost use Rattle.cat_directory.specs.declared.name.FileName.{FileName};
-ghost use Rattle.std.specs.Prelude.{IfErr, IfOk, OnOk, [], false, count_by, ◌<◌, ◌==◌, ◌≡◌, ◌⊎◌, ◌≤◌};
+ghost use Rattle.std.specs.Prelude.{IfErr, IfOk, OnOk, [], false, count_by, ◌<◌, ◌==◌, ◌≡◌, ◌⊎◌};
 ghost use Rattle.cat_ledger_laws.specs.model.Calls.{MayLeave};
-ghost use Rattle.cat_directory.specs.Devices.{CountsOne, NoMore};
+ghost use Rattle.cat_directory.specs.Devices.{NoMore};
 ghost use Rattle.cat_directory.specs.Names.{name_of};
 ghost use Rattle.cat_ledger_laws.specs.model.Users.{users_of};
 ghost use Rattle.cat_model.specs.Files.{Name};
@@ -41,13 +42,8 @@ impl<D: Directory + Shelf> Ledger<D> {
         ensures crash { (q : FileName) → 0 < users_of (shape_in self.old).users (name_of q)
             → NoMore (D.may_leave (device_in self.old) q) (D.may_leave (device_in self.new) q) }
         ensures refusal { IfErr result (λ e. (e ≡ Memory) ⊎ (e ≡ Device)) }
-        ensures device { IfErr result (λ e. e ≡ Device → D.can_fail (device_in self.old)) }
-        ensures counted { IfErr result (λ e. e ≡ Device → CountsOne (D.fault_count (device_in self.old)) (D.fault_count (device_in self.new))) }
-        ensures quiet { IfErr result (λ e. e ≡ Memory → D.fault_count (device_in self.new) ≡ D.fault_count (device_in self.old)) }
-        ensures can { D.can_fail (device_in self.new) → D.can_fail (device_in self.old) }
-        ensures rises { D.fault_count (device_in self.old) ≤ D.fault_count (device_in self.new) }
-        ensures history { Goes D.bytes D.may_leave Event.Other self.old self.new }
-        ensures policy { policy_in self.new ≡ policy_in self.old }
+        ensures fails { CountsFailures D.can_fail D.fault_count (device_in self.old) (device_in self.new) result }
+        ensures goes { GoesOn D.bytes D.may_leave self.old self.new }
     {
         self.core.sweep(&mut self.device)
     }

@@ -1,13 +1,14 @@
 //! Recorded views, and the sessions' rights to them.
 //!
 //! Lucene's `SearcherLifetimeManager`, with `IndexWriter.getReader` for the view of now.
-ghost use Rattle.cat_directory.specs.Devices.{CountsOne, CountsReading, NoMore};
+ghost use Rattle.cat_directory.specs.Frames.{CountsFailures, OnlyReads};
+ghost use Rattle.cat_directory.specs.Devices.{CountsReading, NoMore};
 ghost use Rattle.cat_base.specs.declared.refusal.Refusal.TheVariants.{Damaged, Device, Full, Gone, Memory, NotHeld, Spent};
-ghost use Rattle.cat_ledger.specs.Histories.{Event, Goes};
-ghost use Rattle.cat_ledger.specs.Ledgers.{DoesCall, Spares, device_in, policy_in, shape_in};
+ghost use Rattle.cat_ledger.specs.Histories.{GoesOn};
+ghost use Rattle.cat_ledger.specs.Ledgers.{DoesCall, Spares, device_in, shape_in};
 ghost use Rattle.cat_ledger.specs.Refusals.{KeepsMerge};
 ghost use Rattle.cat_ledger.specs.upkeep.Spared.{SparesCommits};
-ghost use Rattle.std.specs.Prelude.{Err, IfErr, IfNone, IfOk, IfSome, List, None, Ok, OnErr, OnOk, [], false, length, not, option_map, true, ℕ, ◌&&◌, ◌-◌, ◌==◌, ◌≡◌, ◌≢◌, ◌⊎◌, Some, find, ◌≤◌};
+ghost use Rattle.std.specs.Prelude.{Err, IfErr, IfNone, IfOk, IfSome, List, None, Ok, OnErr, OnOk, [], false, length, not, option_map, true, ℕ, ◌&&◌, ◌-◌, ◌==◌, ◌≡◌, ◌≢◌, ◌⊎◌, Some, find};
 ghost use Rattle.cat_directory.specs.declared.name.FileName.{FileName};
 ghost use Rattle.cat_ledger_state.specs.cat_views.Sources.{HoldsSource, MayReachSource, TellsSource, stored_length};
 ghost use Rattle.cat_ledger.specs.Grants.{IsAsked, IsGrant, released_session, released_token, token_granted};
@@ -101,11 +102,7 @@ fn flush_and_record<D: Directory>(core: &mut Core, device: &mut D) -> Result<(),
     ensures commits { SparesCommits (D.may_leave device.old) (D.may_leave device.new) }
     ensures spent { IfErr result (λ e. e ≡ Spent → MayNotFlush core.old) }
     ensures due { IfErr result (λ e. (e ≡ Memory) ⊎ (e ≡ Device) → MayNotFlush core.old → ⊥) }
-    ensures device { IfErr result (λ e. e ≡ Device → D.can_fail device.old) }
-    ensures can { D.can_fail device.new → D.can_fail device.old }
-    ensures rises { D.fault_count device.old ≤ D.fault_count device.new }
-    ensures counted { IfErr result (λ e. e ≡ Device → CountsOne (D.fault_count device.old) (D.fault_count device.new)) }
-    ensures memory { IfErr result (λ e. e ≡ Memory → D.fault_count device.new ≡ D.fault_count device.old) }
+    ensures fails { CountsFailures D.can_fail D.fault_count device.old device.new result }
     ensures refusal { IfErr result (λ e. (e ≡ Memory) ⊎ (e ≡ Device) ⊎ (e ≡ Spent)) }
 {
     if let Err(refusal) = flush(core, device) {
@@ -165,13 +162,8 @@ impl<D: Directory + Shelf> Ledger<D> {
         ensures stays { OnErr result (KeepsMerge (shape_in self.old) (shape_in self.new)) }
         ensures crash { Spares D.may_leave self.old self.new }
         ensures refusal { IfErr result (λ e. (e ≡ Full) ⊎ (e ≡ Memory) ⊎ (e ≡ Device) ⊎ (e ≡ Spent)) }
-        ensures device { IfErr result (λ e. e ≡ Device → D.can_fail (device_in self.old)) }
-        ensures can { D.can_fail (device_in self.new) → D.can_fail (device_in self.old) }
-        ensures rises { D.fault_count (device_in self.old) ≤ D.fault_count (device_in self.new) }
-        ensures counted { IfErr result (λ e. e ≡ Device → CountsOne (D.fault_count (device_in self.old)) (D.fault_count (device_in self.new))) }
-        ensures memory { IfErr result (λ e. e ≡ Memory → D.fault_count (device_in self.new) ≡ D.fault_count (device_in self.old)) }
-        ensures history { Goes D.bytes D.may_leave Event.Other self.old self.new }
-        ensures policy { policy_in self.new ≡ policy_in self.old }
+        ensures fails { CountsFailures D.can_fail D.fault_count (device_in self.old) (device_in self.new) result }
+        ensures goes { GoesOn D.bytes D.may_leave self.old self.new }
     {
         let token = self.core.count();
         if is_refused(&self.core) {
@@ -198,8 +190,7 @@ impl<D: Directory + Shelf> Ledger<D> {
         ensures err { OnErr result (self.new ≡ self.old) }
         ensures same { device_in self.new ≡ device_in self.old }
         ensures refusal { IfErr result (λ e. (e ≡ Gone) ⊎ (e ≡ Memory)) }
-        ensures history { Goes D.bytes D.may_leave Event.Other self.old self.new }
-        ensures policy { policy_in self.new ≡ policy_in self.old }
+        ensures goes { GoesOn D.bytes D.may_leave self.old self.new }
     {
         let token = token.unwrap_or(self.core.newest_token());
         if !self.core.is_recorded(token) {
@@ -227,8 +218,7 @@ impl<D: Directory + Shelf> Ledger<D> {
         ensures wrong { OnErr result (hold.session ≡ session → has_hold (shape_in self.old).holds session hold.view.token ≡ false) }
         ensures err { OnErr result (self.new ≡ self.old) }
         ensures same { device_in self.new ≡ device_in self.old }
-        ensures history { Goes D.bytes D.may_leave Event.Other self.old self.new }
-        ensures policy { policy_in self.new ≡ policy_in self.old }
+        ensures goes { GoesOn D.bytes D.may_leave self.old self.new }
     {
         let token = hold.token();
         if hold.session() != session {
@@ -255,8 +245,7 @@ impl<D: Directory + Shelf> Ledger<D> {
         ensures err { OnErr result (self.new ≡ self.old) }
         ensures same { device_in self.new ≡ device_in self.old }
         ensures refusal { IfErr result (λ e. (e ≡ Gone) ⊎ (e ≡ Memory)) }
-        ensures history { Goes D.bytes D.may_leave Event.Other self.old self.new }
-        ensures policy { policy_in self.new ≡ policy_in self.old }
+        ensures goes { GoesOn D.bytes D.may_leave self.old self.new }
     {
         let token = token.unwrap_or(self.core.newest_token());
         if !self.core.is_recorded(token) {
@@ -278,8 +267,7 @@ impl<D: Directory + Shelf> Ledger<D> {
         ensures held { result ≡ true → shape_in self.new ≡ letting_go session token (shape_in self.old) }
         ensures none { result ≡ false → self.new ≡ self.old }
         ensures same { device_in self.new ≡ device_in self.old }
-        ensures history { Goes D.bytes D.may_leave Event.Other self.old self.new }
-        ensures policy { policy_in self.new ≡ policy_in self.old }
+        ensures goes { GoesOn D.bytes D.may_leave self.old self.new }
     {
         if !self.core.is_held_by(session, token) {
             return false;
@@ -308,8 +296,7 @@ impl<D: Directory + Shelf> Ledger<D> {
         ensures ok { OnOk result (DoesCall D.bytes (Pruned count) self.old self.new) }
         ensures err { OnErr result (self.new ≡ self.old) }
         ensures same { device_in self.new ≡ device_in self.old }
-        ensures history { Goes D.bytes D.may_leave Event.Other self.old self.new }
-        ensures policy { policy_in self.new ≡ policy_in self.old }
+        ensures goes { GoesOn D.bytes D.may_leave self.old self.new }
     {
         let went = self.core.prune(count)?;
         Ok(went)
@@ -344,15 +331,11 @@ impl<D: Directory + Shelf> Ledger<D> {
         ensures due { IfErr result (λ e. e ≡ Memory → (view : View) → IsRecordedAs (shape_in self.old).views token view
             → MayReachSource (D.bytes (device_in self.old)) view id.now) }
         ensures shape { shape_in self.new ≡ shape_in self.old }
-        ensures same { (q : FileName) → D.bytes (device_in self.new) q ≡ D.bytes (device_in self.old) q }
-        ensures crash { (q : FileName) → NoMore (D.may_leave (device_in self.old) q) (D.may_leave (device_in self.new) q) }
+        ensures frame { OnlyReads D.bytes D.may_leave D.can_fail (device_in self.old) (device_in self.new) }
         ensures counted { has_hold (shape_in self.old).holds session token ≡ true
             → CountsReading (D.fault_count (device_in self.old)) (D.fault_count (device_in self.new)) result }
-        ensures device { IfErr result (λ e. e ≡ Device → D.can_fail (device_in self.old)) }
-        ensures can { D.can_fail (device_in self.new) → D.can_fail (device_in self.old) }
-        ensures rises { D.fault_count (device_in self.old) ≤ D.fault_count (device_in self.new) }
-        ensures history { Goes D.bytes D.may_leave Event.Other self.old self.new }
-        ensures policy { policy_in self.new ≡ policy_in self.old }
+        ensures fails { CountsFailures D.can_fail D.fault_count (device_in self.old) (device_in self.new) result }
+        ensures goes { GoesOn D.bytes D.may_leave self.old self.new }
     {
         if !self.core.is_held_by(session, token) {
             return Err(Refusal::NotHeld);

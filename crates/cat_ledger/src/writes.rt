@@ -1,10 +1,10 @@
 //! The writes.
 //!
 //! Lucene's `IndexWriter.updateDocument` and `deleteDocuments`.
-ghost use Rattle.cat_directory.specs.Devices.{CountsOne};
+ghost use Rattle.cat_directory.specs.Frames.{CountsFailures};
 ghost use Rattle.cat_base.specs.declared.refusal.Refusal.TheVariants.{Device, Kind, Memory, Spent};
-ghost use Rattle.cat_ledger.specs.Histories.{Event, Goes};
-ghost use Rattle.cat_ledger.specs.Ledgers.{DoesCall, Spares, device_in, policy_in, shape_in};
+ghost use Rattle.cat_ledger.specs.Histories.{GoesOn};
+ghost use Rattle.cat_ledger.specs.Ledgers.{DoesCall, Spares, device_in, shape_in};
 ghost use Rattle.cat_ledger.specs.Refusals.{KeepsMerge};
 ghost use Rattle.std.specs.Prelude.{Err, IfErr, IfOk, OnErr, OnOk, length, ◌+◌, ◌<◌, ◌≡◌, ◌≢◌, ◌≤◌, ◌⊎◌};
 ghost use Rattle.cat_model.specs.Item.{IsItem};
@@ -51,13 +51,8 @@ impl<D: Directory + Shelf> Ledger<D> {
         ensures stays { OnErr result (KeepsMerge (shape_in self.old) (shape_in self.new)) }
         ensures crash { Spares D.may_leave self.old self.new }
         ensures refusal { IfErr result (λ e. (e ≡ Kind) ⊎ (e ≡ Memory) ⊎ (e ≡ Device) ⊎ (e ≡ Spent)) }
-        ensures device { IfErr result (λ e. e ≡ Device → D.can_fail (device_in self.old)) }
-        ensures counted { IfErr result (λ e. e ≡ Device → CountsOne (D.fault_count (device_in self.old)) (D.fault_count (device_in self.new))) }
-        ensures memory { IfErr result (λ e. e ≡ Memory → D.fault_count (device_in self.new) ≡ D.fault_count (device_in self.old)) }
-        ensures can { D.can_fail (device_in self.new) → D.can_fail (device_in self.old) }
-        ensures rises { D.fault_count (device_in self.old) ≤ D.fault_count (device_in self.new) }
-        ensures history { Goes D.bytes D.may_leave Event.Other self.old self.new }
-        ensures policy { policy_in self.new ≡ policy_in self.old }
+        ensures fails { CountsFailures D.can_fail D.fault_count (device_in self.old) (device_in self.new) result }
+        ensures goes { GoesOn D.bytes D.may_leave self.old self.new }
     {
         if !self.core.schema().accepts(&item) {
             return Err(Refusal::Kind);
@@ -87,8 +82,7 @@ impl<D: Directory + Shelf> Ledger<D> {
         ensures err { OnErr result (self.new ≡ self.old) }
         ensures same { device_in self.new ≡ device_in self.old }
         ensures refusal { IfErr result (λ e. (e ≡ Memory) ⊎ (e ≡ Spent)) }
-        ensures history { Goes D.bytes D.may_leave Event.Other self.old self.new }
-        ensures policy { policy_in self.new ≡ policy_in self.old }
+        ensures goes { GoesOn D.bytes D.may_leave self.old self.new }
     {
         if self.core.count() >= LAST_NUMBER {
             return Err(Refusal::Spent);
@@ -110,8 +104,7 @@ impl<D: Directory + Shelf> Ledger<D> {
         ensures err { OnErr result (self.new ≡ self.old) }
         ensures same { device_in self.new ≡ device_in self.old }
         ensures refusal { IfErr result (λ e. (e ≡ Memory) ⊎ (e ≡ Spent)) }
-        ensures history { Goes D.bytes D.may_leave Event.Other self.old self.new }
-        ensures policy { policy_in self.new ≡ policy_in self.old }
+        ensures goes { GoesOn D.bytes D.may_leave self.old self.new }
     {
         if self.core.count() >= LAST_NUMBER {
             return Err(Refusal::Spent);

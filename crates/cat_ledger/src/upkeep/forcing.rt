@@ -1,11 +1,12 @@
 //! A merge of all segments into one.
 //!
 //! Lucene's `IndexWriter.forceMerge(1)`, which runs it to the end.
+ghost use Rattle.cat_directory.specs.Frames.{CountsFailures};
 ghost use Rattle.std.specs.Prelude.{◌≡◌, ◌⊎◌, ◌<◌, ◌≤◌, None, IfOk, IfErr, OnErr};
 ghost use Rattle.cat_base.specs.declared.refusal.Refusal.TheVariants.{Memory, Device, Spent};
 ghost use Rattle.cat_model.specs.Limits.{last_number};
 ghost use Rattle.cat_model.specs.Run.{Chore};
-ghost use Rattle.cat_directory.specs.Devices.{CountsOne, NoMore};
+ghost use Rattle.cat_directory.specs.Devices.{NoMore};
 ghost use Rattle.cat_directory.specs.Names.{name_of};
 ghost use Rattle.cat_directory.specs.declared.name.FileName.{FileName};
 ghost use Rattle.cat_ledger_laws.specs.model.Ledger.{IsNew};
@@ -37,11 +38,7 @@ fn begin_all<D: Directory>(core: &mut Core, device: &mut D) -> Result<MergeNews,
     ensures due { OnErr result (IsForceDue core.old) }
     ensures spent { IfErr result (λ e. e ≡ Spent → last_number < core.old.next_segment) }
     ensures left { IfErr result (λ e. (e ≡ Memory) ⊎ (e ≡ Device) → core.old.next_segment ≤ last_number) }
-    ensures device { IfErr result (λ e. e ≡ Device → D.can_fail device.old) }
-    ensures counted { IfErr result (λ e. e ≡ Device → CountsOne (D.fault_count device.old) (D.fault_count device.new)) }
-    ensures memory { IfErr result (λ e. e ≡ Memory → D.fault_count device.new ≡ D.fault_count device.old) }
-    ensures can { D.can_fail device.new → D.can_fail device.old }
-    ensures rises { D.fault_count device.old ≤ D.fault_count device.new }
+    ensures fails { CountsFailures D.can_fail D.fault_count device.old device.new result }
     ensures refusal { IfErr result (λ e. (e ≡ Memory) ⊎ (e ≡ Device) ⊎ (e ≡ Spent)) }
 {
     if !may_be_forced(core.leaves()) {
@@ -74,11 +71,7 @@ pub fn force<D: Directory>(core: &mut Core, device: &mut D) -> Result<MergeNews,
     ensures due { OnErr result (IsForceDue core.old) }
     ensures spent { IfErr result (λ e. e ≡ Spent → last_number < core.old.next_segment) }
     ensures left { IfErr result (λ e. (e ≡ Memory) ⊎ (e ≡ Device) → core.old.next_segment ≤ last_number) }
-    ensures device { IfErr result (λ e. e ≡ Device → D.can_fail device.old) }
-    ensures counted { IfErr result (λ e. e ≡ Device → CountsOne (D.fault_count device.old) (D.fault_count device.new)) }
-    ensures memory { IfErr result (λ e. e ≡ Memory → D.fault_count device.new ≡ D.fault_count device.old) }
-    ensures can { D.can_fail device.new → D.can_fail device.old }
-    ensures rises { D.fault_count device.old ≤ D.fault_count device.new }
+    ensures fails { CountsFailures D.can_fail D.fault_count device.old device.new result }
     ensures refusal { IfErr result (λ e. (e ≡ Memory) ⊎ (e ≡ Device) ⊎ (e ≡ Spent)) }
 {
     if core.is_merging() {

@@ -1,12 +1,13 @@
 //! Merges of the segments that the policy picks, step by step.
 //!
 //! Lucene's `IndexWriter.maybeMerge` with a `LogDocMergePolicy`; there a scheduler's threads run a merge whole.
+ghost use Rattle.cat_directory.specs.Frames.{CountsFailures};
 ghost use Rattle.std.specs.Prelude.{◌≡◌, ◌≢◌, ◌⊎◌, ◌<◌, ◌≤◌, is_some, Some, None, IfOk, IfErr, OnOk, OnErr, IsTrue};
 ghost use Rattle.cat_base.specs.declared.refusal.Refusal.TheVariants.{Memory, Device, Damaged, Spent};
 ghost use Rattle.cat_model.specs.Limits.{last_number};
 ghost use Rattle.cat_model.specs.Run.{Chore, News};
 ghost use Rattle.cat_model.specs.Window.{IsWindow};
-ghost use Rattle.cat_directory.specs.Devices.{CountsOne, NoMore};
+ghost use Rattle.cat_directory.specs.Devices.{NoMore};
 ghost use Rattle.cat_directory.specs.Names.{name_of};
 ghost use Rattle.cat_directory.specs.declared.name.FileName.{FileName};
 ghost use Rattle.cat_ledger_laws.specs.model.Ledger.{IsNew};
@@ -47,11 +48,7 @@ fn begin_at<D: Directory>(
     ensures commits { SparesCommits (D.may_leave device.old) (D.may_leave device.new) }
     ensures spent { IfErr result (λ e. e ≡ Spent → last_number < core.old.next_segment) }
     ensures left { IfErr result (λ e. (e ≡ Memory) ⊎ (e ≡ Device) → core.old.next_segment ≤ last_number) }
-    ensures device { IfErr result (λ e. e ≡ Device → D.can_fail device.old) }
-    ensures counted { IfErr result (λ e. e ≡ Device → CountsOne (D.fault_count device.old) (D.fault_count device.new)) }
-    ensures memory { IfErr result (λ e. e ≡ Memory → D.fault_count device.new ≡ D.fault_count device.old) }
-    ensures can { D.can_fail device.new → D.can_fail device.old }
-    ensures rises { D.fault_count device.old ≤ D.fault_count device.new }
+    ensures fails { CountsFailures D.can_fail D.fault_count device.old device.new result }
     ensures refusal { IfErr result (λ e. (e ≡ Memory) ⊎ (e ≡ Device) ⊎ (e ≡ Spent)) }
 {
     let count = policy.factor() as usize;
@@ -79,11 +76,7 @@ fn begin_window<D: Directory>(
     ensures due { IfErr result (λ e. e ≢ Memory → IsMergeDue policy core.old) }
     ensures spent { IfErr result (λ e. e ≡ Spent → last_number < core.old.next_segment) }
     ensures left { IfErr result (λ e. e ≡ Device → core.old.next_segment ≤ last_number) }
-    ensures device { IfErr result (λ e. e ≡ Device → D.can_fail device.old) }
-    ensures counted { IfErr result (λ e. e ≡ Device → CountsOne (D.fault_count device.old) (D.fault_count device.new)) }
-    ensures memory { IfErr result (λ e. e ≡ Memory → D.fault_count device.new ≡ D.fault_count device.old) }
-    ensures can { D.can_fail device.new → D.can_fail device.old }
-    ensures rises { D.fault_count device.old ≤ D.fault_count device.new }
+    ensures fails { CountsFailures D.can_fail D.fault_count device.old device.new result }
     ensures refusal { IfErr result (λ e. (e ≡ Memory) ⊎ (e ≡ Device) ⊎ (e ≡ Spent)) }
 {
     match window_of(alloc, core.leaves(), policy) {
@@ -104,12 +97,9 @@ fn copy<D: Directory + Shelf>(core: &mut Core, device: &mut D) -> Result<usize, 
     ensures commits { SparesCommits (D.may_leave device.old) (D.may_leave device.new) }
     ensures lacking { IfErr result (λ e. e ≡ Damaged → LacksToCopy (D.bytes device.old) core.old.merging) }
     ensures short { IfErr result (λ e. e ≡ Damaged → LacksInput (D.bytes device.old) core.old.merging) }
-    ensures device { IfErr result (λ e. e ≡ Device → D.can_fail device.old ⊎ LacksOwn (D.bytes device.old) core.old.merging) }
-    ensures counted { IfErr result (λ e. e ≡ Device → CountsOne (D.fault_count device.old) (D.fault_count device.new)) }
-    ensures memory { IfErr result (λ e. e ≡ Memory → D.fault_count device.new ≡ D.fault_count device.old) }
+    ensures fails { CountsFailures (λ d. D.can_fail d ⊎ LacksOwn (D.bytes device.old) core.old.merging) D.fault_count device.old device.new result }
     ensures reach { IfErr result (λ e. e ≡ Memory → MayCopy (D.bytes device.old) core.old.merging) }
     ensures can { D.can_fail device.new → D.can_fail device.old }
-    ensures rises { D.fault_count device.old ≤ D.fault_count device.new }
     ensures refusal { IfErr result (λ e. (e ≡ Memory) ⊎ (e ≡ Device) ⊎ (e ≡ Damaged)) }
 {
     if let Err(refusal) = core.copy_rows(device) {
@@ -131,11 +121,7 @@ fn finish<D: Directory>(core: &mut Core, device: &mut D) -> Result<(), Refusal>
     ensures segments { OnErr result (KeepsSegments core.old core.new) }
     ensures crash { (q : FileName) → (IsOfMerge core.old.merging q → ⊥) → NoMore (D.may_leave device.old q) (D.may_leave device.new q) }
     ensures commits { SparesCommits (D.may_leave device.old) (D.may_leave device.new) }
-    ensures device { IfErr result (λ e. e ≡ Device → D.can_fail device.old) }
-    ensures counted { IfErr result (λ e. e ≡ Device → CountsOne (D.fault_count device.old) (D.fault_count device.new)) }
-    ensures memory { IfErr result (λ e. e ≡ Memory → D.fault_count device.new ≡ D.fault_count device.old) }
-    ensures can { D.can_fail device.new → D.can_fail device.old }
-    ensures rises { D.fault_count device.old ≤ D.fault_count device.new }
+    ensures fails { CountsFailures D.can_fail D.fault_count device.old device.new result }
     ensures refusal { IfErr result (λ e. (e ≡ Memory) ⊎ (e ≡ Device)) }
 {
     // Its contract says that the merge has passed no more rows than there are.
@@ -158,12 +144,9 @@ fn go_on<D: Directory + Shelf>(core: &mut Core, device: &mut D) -> Result<MergeN
     ensures damaged { IfErr result (λ e. e ≡ Damaged → HasRowsLeft core.old.merging) }
     ensures lacking { IfErr result (λ e. e ≡ Damaged → LacksToCopy (D.bytes device.old) core.old.merging) }
     ensures short { IfErr result (λ e. e ≡ Damaged → LacksInput (D.bytes device.old) core.old.merging) }
-    ensures device { IfErr result (λ e. e ≡ Device → D.can_fail device.old ⊎ LacksOwn (D.bytes device.old) core.old.merging) }
-    ensures counted { IfErr result (λ e. e ≡ Device → CountsOne (D.fault_count device.old) (D.fault_count device.new)) }
-    ensures memory { IfErr result (λ e. e ≡ Memory → D.fault_count device.new ≡ D.fault_count device.old) }
+    ensures fails { CountsFailures (λ d. D.can_fail d ⊎ LacksOwn (D.bytes device.old) core.old.merging) D.fault_count device.old device.new result }
     ensures reach { IfErr result (λ e. e ≡ Memory → MayCopy (D.bytes device.old) core.old.merging) }
     ensures can { D.can_fail device.new → D.can_fail device.old }
-    ensures rises { D.fault_count device.old ≤ D.fault_count device.new }
     ensures refusal { IfErr result (λ e. (e ≡ Memory) ⊎ (e ≡ Device) ⊎ (e ≡ Damaged)) }
 {
     if core.has_rows_left() {
@@ -205,12 +188,9 @@ pub fn merge_step<D: Directory + Shelf>(
     ensures damaged { IfErr result (λ e. e ≡ Damaged → HasRowsLeft core.old.merging) }
     ensures lacking { IfErr result (λ e. e ≡ Damaged → LacksToCopy (D.bytes device.old) core.old.merging) }
     ensures short { IfErr result (λ e. e ≡ Damaged → LacksInput (D.bytes device.old) core.old.merging) }
-    ensures device { IfErr result (λ e. e ≡ Device → D.can_fail device.old ⊎ LacksOwn (D.bytes device.old) core.old.merging) }
-    ensures counted { IfErr result (λ e. e ≡ Device → CountsOne (D.fault_count device.old) (D.fault_count device.new)) }
-    ensures memory { IfErr result (λ e. e ≡ Memory → D.fault_count device.new ≡ D.fault_count device.old) }
+    ensures fails { CountsFailures (λ d. D.can_fail d ⊎ LacksOwn (D.bytes device.old) core.old.merging) D.fault_count device.old device.new result }
     ensures reach { IfErr result (λ e. e ≡ Memory → MayCopy (D.bytes device.old) core.old.merging) }
     ensures can { D.can_fail device.new → D.can_fail device.old }
-    ensures rises { D.fault_count device.old ≤ D.fault_count device.new }
     ensures refusal { IfErr result (λ e. (e ≡ Memory) ⊎ (e ≡ Device) ⊎ (e ≡ Damaged) ⊎ (e ≡ Spent)) }
 {
     if core.is_merging() {

@@ -113,7 +113,7 @@ returns-in-Err-commit-clause-device g c = λ before is.
     let bytes = g.D.Holder.bytes in
     let carried = carried_on Flushes (bytes c.args.device.now) (bytes c.flush.new.device) c.args.core.now c.flush.new.core c.in_default.ensures.ok before in
     elim (c.in-Err-commit.ensures.device is) [
-      | inl fails ↦ c.flush.ensures.can fails
+      | inl fails ↦ c.flush.ensures.fails.can fails
       | inr w ↦ absurd (synced_stands (bytes c.flush.new.device) c.flush.new.core carried w.0 w.1 w.2 w.3)
     ]
 

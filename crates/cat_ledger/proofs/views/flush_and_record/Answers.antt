@@ -1,4 +1,6 @@
-use Rattle.std.proofs.Common.{refl}
+use Rattle.std.proofs.Common.{Err, refl}
+use Rattle.cat_base.specs.declared.refusal.Refusal.TheVariants.{Memory}
+use Rattle.cat_ledger.proofs.Failures.{memory_is_none, quiet_fails}
 use Rattle.cat_ledger.proofs.Made.{flush_left, may_still}
 use Rattle.cat_ledger_laws.proofs.lines.JoinedCalls.{refreshes_make}
 use Rattle.cat_ledger.proofs.Refused.{goes_on}
@@ -8,6 +10,10 @@ pub returns-in-Ok-clause-ok : goal.returns-in-Ok-clause-ok
 returns-in-Ok-clause-ok g c =
     refreshes_make (g.D.Holder.bytes c.args.device.now) (g.D.Holder.bytes c.flush.new.device) (g.D.Holder.bytes c.flush.new.device)
     c.args.core.now c.flush.new.core c.record_where_none.new.core c.in_default.ensures.ok (c.in-Ok.ensures.ok (g.D.Holder.bytes c.flush.new.device))
+
+pub returns-in-Err-record_where_none-clause-fails : goal.returns-in-Err-record_where_none-clause-fails
+returns-in-Err-record_where_none-clause-fails g c =
+    quiet_fails (Err Memory) (λ is. absurd (memory_is_none is)) c.in_default.ensures.quiet c.flush.ensures.fails.can
 
 pub returns-in-Err-record_where_none-clause-err : goal.returns-in-Err-record_where_none-clause-err
 returns-in-Err-record_where_none-clause-err g c =

@@ -2,7 +2,7 @@ use Rattle.std.proofs.Common.{◌∙◌, subst, sym, ap}
 use Rattle.cat_ledger.proofs.Lasting.{held_carried, kept_still, same_needs}
 use Rattle.cat_ledger.proofs.Made.{asked_is, asked_nowhere}
 use Rattle.cat_ledger.specs.Grants.{IsAsked}
-use Rattle.cat_ledger.proofs.Histories.{memory_goes, nothing_goes}
+use Rattle.cat_ledger.proofs.Histories.{goes_so, memory_goes, nothing_goes_on}
 use Rattle.cat_ledger_laws.specs.shape.Shapes.{Shape}
 use Rattle.cat_ledger_laws.specs.shape.Steps.{newest_generation}
 use Rattle.cat_ledger.proofs.ledger.Ledger.acquire.Goals as goal
@@ -41,22 +41,22 @@ returns-then-not-is_recorded-clause-gone g c =
     rw (← c.self.view_is) (λ _ t asked. asked_nowhere c.self.inside.core c.args.token c.newest_token.result c.unwrap_or-token.result t
     c.unwrap_or-token.ensures c.newest_token.ensures.there (sym c.is_recorded.ensures ∙ c.if-not-is_recorded.true) asked)
 
-pub returns-then-not-is_recorded-clause-history : goal.returns-then-not-is_recorded-clause-history
-returns-then-not-is_recorded-clause-history g c =
-    nothing_goes g.D.Holder.bytes g.D.Holder.may_leave c.args.self.now
+pub returns-then-not-is_recorded-clause-goes : goal.returns-then-not-is_recorded-clause-goes
+returns-then-not-is_recorded-clause-goes g c =
+    nothing_goes_on g.D.Holder.bytes g.D.Holder.may_leave c.args.self.now
 
-pub returns-then-is_held_by-clause-history : goal.returns-then-is_held_by-clause-history
-returns-then-is_held_by-clause-history g c =
-    nothing_goes g.D.Holder.bytes g.D.Holder.may_leave c.args.self.now
+pub returns-then-is_held_by-clause-goes : goal.returns-then-is_held_by-clause-goes
+returns-then-is_held_by-clause-goes g c =
+    nothing_goes_on g.D.Holder.bytes g.D.Holder.may_leave c.args.self.now
 
-pub returns-in-Err-clause-history : goal.returns-in-Err-clause-history
-returns-in-Err-clause-history g c =
-    rw (← c.self.view_is) (memory_goes g.D.Holder.bytes g.D.Holder.may_leave c.self.inside.device c.self.inside.core c.grant_right.new.core c.self.inside.policy c.self.inside.policy
+pub returns-in-Err-clause-goes : goal.returns-in-Err-clause-goes
+returns-in-Err-clause-goes g c =
+    rw (← c.self.view_is) (goes_so g.D.Holder.bytes g.D.Holder.may_leave (memory_goes g.D.Holder.bytes g.D.Holder.may_leave c.self.inside.device c.self.inside.core c.grant_right.new.core c.self.inside.policy c.self.inside.policy
     (ap (λ (x : Shape). newest_generation x.commits) c.in-Err.ensures.err) (ap (λ (x : Shape). x.next_generation) c.in-Err.ensures.err)
-    (ap (λ (x : Shape). x.next_segment) c.in-Err.ensures.err) (ap (λ (x : Shape). x.merging) c.in-Err.ensures.err))
+    (ap (λ (x : Shape). x.next_segment) c.in-Err.ensures.err) (ap (λ (x : Shape). x.merging) c.in-Err.ensures.err)))
 
-pub returns-clause-history : goal.returns-clause-history
-returns-clause-history g c =
-    rw (← c.self.view_is) (memory_goes g.D.Holder.bytes g.D.Holder.may_leave c.self.inside.device c.self.inside.core c.grant_right.new.core c.self.inside.policy c.self.inside.policy
+pub returns-clause-goes : goal.returns-clause-goes
+returns-clause-goes g c =
+    rw (← c.self.view_is) (goes_so g.D.Holder.bytes g.D.Holder.may_leave (memory_goes g.D.Holder.bytes g.D.Holder.may_leave c.self.inside.device c.self.inside.core c.grant_right.new.core c.self.inside.policy c.self.inside.policy
     (ap (λ (x : Shape). newest_generation x.commits) c.in-Ok.ensures.ok) (ap (λ (x : Shape). x.next_generation) c.in-Ok.ensures.ok)
-    (ap (λ (x : Shape). x.next_segment) c.in-Ok.ensures.ok) (ap (λ (x : Shape). x.merging) c.in-Ok.ensures.ok))
+    (ap (λ (x : Shape). x.next_segment) c.in-Ok.ensures.ok) (ap (λ (x : Shape). x.merging) c.in-Ok.ensures.ok)))

@@ -1,9 +1,10 @@
-use Rattle.std.proofs.Common.{◌≡◌, ◌≤◌, Ok, arith, inl}
+use Rattle.std.proofs.Common.{◌≡◌, ◌≤◌, Err, Ok, arith, inl, inr}
 use Rattle.std.specs.Prelude.{◌⊎◌}
-use Rattle.cat_base.specs.declared.refusal.Refusal.TheVariants.{Device, Memory}
+use Rattle.cat_base.specs.declared.refusal.Refusal.TheVariants.{Device, Memory, Spent}
 use Rattle.cat_model.specs.Heard.{commit_text_of}
 use Rattle.cat_model.specs.Limits.{last_number}
 use Rattle.cat_ledger_state.specs.Cores.{MayNotFlush}
+use Rattle.cat_ledger.proofs.Failures.{none_fails}
 use Rattle.cat_ledger.proofs.Lasting.{call_keeps, lets_left}
 use Rattle.cat_ledger.proofs.Made.{untouched}
 use Rattle.cat_ledger.proofs.Results.{if_err, on_ok, one_way}
@@ -73,8 +74,22 @@ returns-clause-refused g c =
     (λ made tried. refused_or_other bytes left IsLeft lets_left takes_left c.self.inside.device done.new.device s done.new.core policy policy made
     c.self.invariant.carried (λ q old apart. done.ensures.crash q old) c.args.text.now tried done.ensures.commits c.self.invariant) done.ensures.err done.ensures.tried)
 
-pub returns-clause-device : goal.returns-clause-device
-returns-clause-device g c = λ formed. rw (← c.self.view_is) (c.flush_and_commit.ensures.device c.self.invariant.carried)
+-- a text that may not be isn't refused for a failure
+pub returns-in-Err-clause-fails : goal.returns-in-Err-clause-fails
+returns-in-Err-clause-fails g c =
+    none_fails c.args.self.now.device (Err c.in-Err.refusal) (λ is. no_want c.args.text.now c.in-Err.refusal c.in-Err.ensures.err (inr is))
+
+pub returns-then-next_generation-gt-LAST_NUMBER-clause-fails : goal.returns-then-next_generation-gt-LAST_NUMBER-clause-fails
+returns-then-next_generation-gt-LAST_NUMBER-clause-fails g c = none_fails c.args.self.now.device (Err Spent) (λ is. cc is)
+
+pub returns-clause-fails : goal.returns-clause-fails
+returns-clause-fails g c = rw (← c.self.view_is) (record {
+  device = c.flush_and_commit.ensures.device c.self.invariant.carried;
+  counted = c.flush_and_commit.ensures.counted;
+  memory = c.flush_and_commit.ensures.memory;
+  can = c.flush_and_commit.ensures.can;
+  rises = c.flush_and_commit.ensures.rises;
+})
 
 pub returns-in-Err-clause-stays : goal.returns-in-Err-clause-stays
 returns-in-Err-clause-stays g c = nothing_ends c.args.self.now.core

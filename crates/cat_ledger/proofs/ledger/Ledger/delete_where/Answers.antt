@@ -4,7 +4,7 @@ use Rattle.cat_ledger.proofs.Made.{written}
 use Rattle.cat_ledger_laws.specs.model.Calls.{wrote}
 use Rattle.cat_model.specs.Write.{Write}
 use Rattle.cat_ledger_state.specs.cat_query.View.{query_of}
-use Rattle.cat_ledger.proofs.Histories.{memory_goes, nothing_goes}
+use Rattle.cat_ledger.proofs.Histories.{goes_so, memory_goes, nothing_goes_on}
 use Rattle.cat_ledger_laws.specs.shape.Shapes.{Shape}
 use Rattle.cat_ledger_laws.specs.shape.Steps.{newest_generation}
 use Rattle.cat_ledger.proofs.ledger.Ledger.delete_where.Goals as goal
@@ -24,12 +24,12 @@ returns-clause-ok g c =
     (Write.delete_where (query_of c.args.query.now)) c.in_ok-delete_where.ensures.ok
     (omega (arith, c.count.ensures.count, c.if-count-ge-LAST_NUMBER.false)) tt)
 
-pub returns-then-count-ge-LAST_NUMBER-clause-history : goal.returns-then-count-ge-LAST_NUMBER-clause-history
-returns-then-count-ge-LAST_NUMBER-clause-history g c =
-    nothing_goes g.D.Holder.bytes g.D.Holder.may_leave c.args.self.now
+pub returns-then-count-ge-LAST_NUMBER-clause-goes : goal.returns-then-count-ge-LAST_NUMBER-clause-goes
+returns-then-count-ge-LAST_NUMBER-clause-goes g c =
+    nothing_goes_on g.D.Holder.bytes g.D.Holder.may_leave c.args.self.now
 
-pub returns-clause-history : goal.returns-clause-history
-returns-clause-history g c =
-    rw (← c.self.view_is) (memory_goes g.D.Holder.bytes g.D.Holder.may_leave c.self.inside.device c.self.inside.core c.delete_where.new.self c.self.inside.policy c.self.inside.policy
+pub returns-clause-goes : goal.returns-clause-goes
+returns-clause-goes g c =
+    rw (← c.self.view_is) (goes_so g.D.Holder.bytes g.D.Holder.may_leave (memory_goes g.D.Holder.bytes g.D.Holder.may_leave c.self.inside.device c.self.inside.core c.delete_where.new.self c.self.inside.policy c.self.inside.policy
     (ap (λ (x : Shape). newest_generation x.commits) c.in_ok-delete_where.ensures.ok) (ap (λ (x : Shape). x.next_generation) c.in_ok-delete_where.ensures.ok)
-    (ap (λ (x : Shape). x.next_segment) c.in_ok-delete_where.ensures.ok) (ap (λ (x : Shape). x.merging) c.in_ok-delete_where.ensures.ok))
+    (ap (λ (x : Shape). x.next_segment) c.in_ok-delete_where.ensures.ok) (ap (λ (x : Shape). x.merging) c.in_ok-delete_where.ensures.ok)))

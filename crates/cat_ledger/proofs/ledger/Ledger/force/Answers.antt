@@ -5,7 +5,7 @@ use Rattle.cat_ledger.specs.upkeep.News.{news_of}
 use Rattle.cat_ledger.proofs.Lasting.{call_keeps, lets_left, lets_maintain}
 use Rattle.cat_ledger.proofs.Results.{either_way, if_ok}
 use Rattle.cat_ledger.specs.Lasting.{IsLasting}
-use Rattle.cat_ledger.proofs.Histories.{call_goes}
+use Rattle.cat_ledger.proofs.Histories.{call_goes, goes_so}
 use Rattle.cat_ledger.proofs.Taken.{takes_maintain}
 use Rattle.cat_ledger_laws.proofs.model.Taking.{takes_left}
 use Rattle.cat_ledger.specs.Histories.{Event, Goes}
@@ -30,18 +30,21 @@ returns-clause-ok g c = rw (← c.self.view_is) (if_ok _ _ c.force.result (λ ne
 pub returns-clause-err : goal.returns-clause-err
 returns-clause-err g c = rw (← c.self.view_is) c.force.ensures.err
 
-pub returns-clause-history : goal.returns-clause-history
-returns-clause-history g c =
+pub returns-clause-fails : goal.returns-clause-fails
+returns-clause-fails g c = rw (← c.self.view_is) c.force.ensures.fails
+
+pub returns-clause-goes : goal.returns-clause-goes
+returns-clause-goes g c =
     let done = c.force in
     let policy = c.self.inside.policy in
     let bytes = g.D.Holder.bytes in
     let left = g.D.Holder.may_leave in
-    rw (← c.self.view_is) (either_way
+    rw (← c.self.view_is) (goes_so g.D.Holder.bytes g.D.Holder.may_leave (either_way
     (Goes bytes left Event.Other (record { device = c.self.inside.device; core = c.self.inside.core; policy = policy }) (record { device = done.new.device; core = done.new.core; policy = policy }))
     (Makes IsLeft (bytes c.self.inside.device) c.self.inside.core (bytes done.new.device) done.new.core) done.result done.ensures.ok done.ensures.err
     (λ news makes. call_goes bytes left (Maintains policy Chore.force (news_of news)) (lets_maintain policy Chore.force (news_of news)) (takes_maintain policy Chore.force (news_of news)) c.self.inside.device
     done.new.device c.self.inside.core done.new.core policy policy (makes policy) c.self.invariant.carried (λ q old apart. done.ensures.crash q old) done.ensures.commits)
-    (λ made. call_goes bytes left IsLeft lets_left takes_left c.self.inside.device done.new.device c.self.inside.core done.new.core policy policy made c.self.invariant.carried (λ q old apart. done.ensures.crash q old) done.ensures.commits))
+    (λ made. call_goes bytes left IsLeft lets_left takes_left c.self.inside.device done.new.device c.self.inside.core done.new.core policy policy made c.self.invariant.carried (λ q old apart. done.ensures.crash q old) done.ensures.commits)))
 
 pub returns-clause-stays : goal.returns-clause-stays
 returns-clause-stays g c = rw (← c.self.view_is) c.force.ensures.stays

@@ -1,6 +1,6 @@
 use Rattle.std.proofs.Common.{sym, ap}
 use Rattle.cat_ledger.proofs.Lasting.{kept_still, let_go_carried, same_needs}
-use Rattle.cat_ledger.proofs.Histories.{memory_goes}
+use Rattle.cat_ledger.proofs.Histories.{goes_so, memory_goes}
 use Rattle.cat_ledger_laws.specs.shape.Shapes.{Shape}
 use Rattle.cat_ledger_laws.specs.shape.Steps.{newest_generation}
 use Rattle.cat_ledger.proofs.ledger.Ledger.let_go.Goals as goal
@@ -14,8 +14,8 @@ invariant_of-self g c =
     (sym c.if-not-is_held_by.ensures) c.let_go-had.ensures.released c.self.invariant.carried)
     (same_needs _ _ c.let_go-had.ensures.released) (λ q needed e might. might) c.self.invariant
 
-pub returns-clause-history : goal.returns-clause-history
-returns-clause-history g c =
-    rw (← c.self.view_is) (memory_goes g.D.Holder.bytes g.D.Holder.may_leave c.self.inside.device c.self.inside.core c.let_go-had.new.self c.self.inside.policy c.self.inside.policy
+pub returns-clause-goes : goal.returns-clause-goes
+returns-clause-goes g c =
+    rw (← c.self.view_is) (goes_so g.D.Holder.bytes g.D.Holder.may_leave (memory_goes g.D.Holder.bytes g.D.Holder.may_leave c.self.inside.device c.self.inside.core c.let_go-had.new.self c.self.inside.policy c.self.inside.policy
     (ap (λ (x : Shape). newest_generation x.commits) c.let_go-had.ensures.released) (ap (λ (x : Shape). x.next_generation) c.let_go-had.ensures.released)
-    (ap (λ (x : Shape). x.next_segment) c.let_go-had.ensures.released) (ap (λ (x : Shape). x.merging) c.let_go-had.ensures.released))
+    (ap (λ (x : Shape). x.next_segment) c.let_go-had.ensures.released) (ap (λ (x : Shape). x.merging) c.let_go-had.ensures.released)))

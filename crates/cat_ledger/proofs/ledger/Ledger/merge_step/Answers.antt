@@ -12,7 +12,7 @@ use Rattle.cat_ledger.proofs.Untold.{untold_input}
 use Rattle.cat_ledger.specs.Refusals.{HasUntoldInput}
 use Rattle.cat_ledger_state.specs.Cores.{LacksInput, LacksOwn}
 use Rattle.cat_ledger.specs.Lasting.{IsLasting}
-use Rattle.cat_ledger.proofs.Histories.{call_goes}
+use Rattle.cat_ledger.proofs.Histories.{call_goes, goes_so}
 use Rattle.cat_ledger.proofs.Taken.{takes_maintain}
 use Rattle.cat_ledger_laws.proofs.model.Taking.{takes_left}
 use Rattle.cat_ledger.specs.Histories.{Event, Goes}
@@ -37,32 +37,38 @@ returns-clause-ok g c = rw (← c.self.view_is) c.merge_step.ensures.ok
 pub returns-clause-err : goal.returns-clause-err
 returns-clause-err g c = rw (← c.self.view_is) c.merge_step.ensures.err
 
-pub returns-clause-history : goal.returns-clause-history
-returns-clause-history g c =
+pub returns-clause-goes : goal.returns-clause-goes
+returns-clause-goes g c =
     let done = c.merge_step in
     let policy = c.self.inside.policy in
     let bytes = g.D.Holder.bytes in
     let left = g.D.Holder.may_leave in
-    rw (← c.self.view_is) (either_way
+    rw (← c.self.view_is) (goes_so g.D.Holder.bytes g.D.Holder.may_leave (either_way
     (Goes bytes left Event.Other (record { device = c.self.inside.device; core = c.self.inside.core; policy = policy }) (record { device = done.new.device; core = done.new.core; policy = policy }))
     (Makes IsLeft (bytes c.self.inside.device) c.self.inside.core (bytes done.new.device) done.new.core) done.result done.ensures.ok done.ensures.err
     (λ news makes. call_goes bytes left (Maintains policy Chore.merge (news_of news)) (lets_maintain policy Chore.merge (news_of news)) (takes_maintain policy Chore.merge (news_of news)) c.self.inside.device
     done.new.device c.self.inside.core done.new.core policy policy makes c.self.invariant.carried done.ensures.crash done.ensures.commits)
-    (λ made. call_goes bytes left IsLeft lets_left takes_left c.self.inside.device done.new.device c.self.inside.core done.new.core policy policy made c.self.invariant.carried done.ensures.crash done.ensures.commits))
+    (λ made. call_goes bytes left IsLeft lets_left takes_left c.self.inside.device done.new.device c.self.inside.core done.new.core policy policy made c.self.invariant.carried done.ensures.crash done.ensures.commits)))
 
 pub returns-clause-segments : goal.returns-clause-segments
 returns-clause-segments g c = rw (← c.self.view_is) c.merge_step.ensures.segments
 
 -- the file that the merge copies to stands, so the directory can fail
-pub returns-clause-device : goal.returns-clause-device
-returns-clause-device g c =
+pub returns-clause-fails : goal.returns-clause-fails
+returns-clause-fails g c =
     let told = g.D.Holder.bytes c.self.inside.device in
-    rw (← c.self.view_is) (if_err (λ e. e ≡ Device → g.D.Holder.can_fail c.self.inside.device ⊎ LacksOwn told c.self.inside.core.merging)
-    (λ e. e ≡ Device → g.D.Holder.can_fail c.self.inside.device) c.merge_step.result
-    (λ e so is. elim (so is) [
-      | inl fails ↦ fails
-      | inr gone ↦ absurd (own_stands told c.self.inside.core c.self.invariant.carried gone)
-    ]) c.merge_step.ensures.device)
+    rw (← c.self.view_is) (record {
+      device = if_err (λ e. e ≡ Device → g.D.Holder.can_fail c.self.inside.device ⊎ LacksOwn told c.self.inside.core.merging)
+          (λ e. e ≡ Device → g.D.Holder.can_fail c.self.inside.device) c.merge_step.result
+          (λ e so is. elim (so is) [
+            | inl fails ↦ fails
+            | inr gone ↦ absurd (own_stands told c.self.inside.core c.self.invariant.carried gone)
+          ]) c.merge_step.ensures.fails.device;
+      counted = c.merge_step.ensures.fails.counted;
+      memory = c.merge_step.ensures.fails.memory;
+      can = c.merge_step.ensures.can;
+      rises = c.merge_step.ensures.fails.rises;
+    })
 
 -- the files with sources are whole where they are told, so one isn't
 pub returns-clause-untold : goal.returns-clause-untold

@@ -1,4 +1,6 @@
-use Rattle.std.proofs.Common.{arith, refl, subst, sym}
+use Rattle.std.proofs.Common.{Err, arith, refl, subst, sym}
+use Rattle.cat_base.specs.declared.refusal.Refusal.TheVariants.{Memory}
+use Rattle.cat_ledger.proofs.Failures.{fails_as, memory_is_none, quiet_fails}
 use Rattle.cat_ledger.proofs.Lasting.{call_keeps, lets_left, lets_put}
 use Rattle.cat_ledger.proofs.Made.{room_left, untouched, written}
 use Rattle.cat_ledger_laws.proofs.lines.JoinedCalls.{puts_make}
@@ -6,7 +8,7 @@ use Rattle.cat_ledger_laws.specs.lines.LineLaws.{Puts}
 use Rattle.cat_ledger_laws.specs.model.Replies.{IsLeft}
 use Rattle.cat_model.specs.Item.{IsItem}
 use Rattle.cat_model.specs.Write.{Write}
-use Rattle.cat_ledger.proofs.Histories.{call_goes, nothing_goes}
+use Rattle.cat_ledger.proofs.Histories.{call_goes, goes_so, nothing_goes_on}
 use Rattle.cat_ledger.proofs.Taken.{takes_put}
 use Rattle.cat_ledger_laws.proofs.model.Taking.{takes_left}
 use Rattle.cat_ledger.proofs.Refused.{goes_on, nothing_ends}
@@ -62,35 +64,45 @@ returns-in-Err-put-clause-err g c =
     rw (← c.self.view_is) (room_left (g.D.Holder.bytes c.self.inside.device) (g.D.Holder.bytes c.make_room.new.device) c.self.inside.core
     c.make_room.new.core c.put.new.self c.in_default.ensures.ok c.in-Err-put.ensures.err)
 
-pub returns-then-not-accepts-clause-history : goal.returns-then-not-accepts-clause-history
-returns-then-not-accepts-clause-history g c =
-    nothing_goes g.D.Holder.bytes g.D.Holder.may_leave c.args.self.now
+pub returns-then-not-accepts-clause-goes : goal.returns-then-not-accepts-clause-goes
+returns-then-not-accepts-clause-goes g c =
+    nothing_goes_on g.D.Holder.bytes g.D.Holder.may_leave c.args.self.now
 
-pub returns-then-count-ge-LAST_NUMBER-clause-history : goal.returns-then-count-ge-LAST_NUMBER-clause-history
-returns-then-count-ge-LAST_NUMBER-clause-history g c =
-    nothing_goes g.D.Holder.bytes g.D.Holder.may_leave c.args.self.now
+pub returns-then-count-ge-LAST_NUMBER-clause-goes : goal.returns-then-count-ge-LAST_NUMBER-clause-goes
+returns-then-count-ge-LAST_NUMBER-clause-goes g c =
+    nothing_goes_on g.D.Holder.bytes g.D.Holder.may_leave c.args.self.now
 
-pub returns-in-Err-clause-history : goal.returns-in-Err-clause-history
-returns-in-Err-clause-history g c =
-    rw (← c.self.view_is) (call_goes g.D.Holder.bytes g.D.Holder.may_leave IsLeft lets_left takes_left c.self.inside.device c.make_room.new.device c.self.inside.core c.make_room.new.core
-    c.self.inside.policy c.self.inside.policy c.in-Err.ensures.err c.self.invariant.carried (λ q old apart. c.make_room.ensures.crash q old) c.make_room.ensures.commits)
+pub returns-in-Err-clause-fails : goal.returns-in-Err-clause-fails
+returns-in-Err-clause-fails g c = rw (← c.self.view_is) (fails_as _ _ (λ P no. no) c.in-Err.ensures.fails)
 
-pub returns-in-Err-put-clause-history : goal.returns-in-Err-put-clause-history
-returns-in-Err-put-clause-history g c =
-    rw (← c.self.view_is) (call_goes g.D.Holder.bytes g.D.Holder.may_leave IsLeft lets_left takes_left c.self.inside.device c.make_room.new.device c.self.inside.core c.put.new.self
+pub returns-in-Err-put-clause-fails : goal.returns-in-Err-put-clause-fails
+returns-in-Err-put-clause-fails g c =
+    rw (← c.self.view_is) (quiet_fails (Err Memory) (λ is. absurd (memory_is_none is)) c.in_default.ensures.quiet c.make_room.ensures.fails.can)
+
+pub returns-clause-fails : goal.returns-clause-fails
+returns-clause-fails g c = rw (← c.self.view_is) (fails_as _ _ (λ P no. no) c.in_default.ensures.fails)
+
+pub returns-in-Err-clause-goes : goal.returns-in-Err-clause-goes
+returns-in-Err-clause-goes g c =
+    rw (← c.self.view_is) (goes_so g.D.Holder.bytes g.D.Holder.may_leave (call_goes g.D.Holder.bytes g.D.Holder.may_leave IsLeft lets_left takes_left c.self.inside.device c.make_room.new.device c.self.inside.core c.make_room.new.core
+    c.self.inside.policy c.self.inside.policy c.in-Err.ensures.err c.self.invariant.carried (λ q old apart. c.make_room.ensures.crash q old) c.make_room.ensures.commits))
+
+pub returns-in-Err-put-clause-goes : goal.returns-in-Err-put-clause-goes
+returns-in-Err-put-clause-goes g c =
+    rw (← c.self.view_is) (goes_so g.D.Holder.bytes g.D.Holder.may_leave (call_goes g.D.Holder.bytes g.D.Holder.may_leave IsLeft lets_left takes_left c.self.inside.device c.make_room.new.device c.self.inside.core c.put.new.self
     c.self.inside.policy c.self.inside.policy (room_left (g.D.Holder.bytes c.self.inside.device) (g.D.Holder.bytes c.make_room.new.device) c.self.inside.core c.make_room.new.core
-    c.put.new.self c.in_default.ensures.ok c.in-Err-put.ensures.err) c.self.invariant.carried (λ q old apart. c.make_room.ensures.crash q old) c.make_room.ensures.commits)
+    c.put.new.self c.in_default.ensures.ok c.in-Err-put.ensures.err) c.self.invariant.carried (λ q old apart. c.make_room.ensures.crash q old) c.make_room.ensures.commits))
 
-pub returns-clause-history : goal.returns-clause-history
-returns-clause-history g c =
+pub returns-clause-goes : goal.returns-clause-goes
+returns-clause-goes g c =
     let told = g.D.Holder.bytes c.self.inside.device in
     let told' = g.D.Holder.bytes c.make_room.new.device in
-    rw (← c.self.view_is) (call_goes g.D.Holder.bytes g.D.Holder.may_leave (Puts c.args.item) (lets_put c.args.item) (takes_put c.args.item) c.self.inside.device c.make_room.new.device c.self.inside.core c.put.new.self
+    rw (← c.self.view_is) (goes_so g.D.Holder.bytes g.D.Holder.may_leave (call_goes g.D.Holder.bytes g.D.Holder.may_leave (Puts c.args.item) (lets_put c.args.item) (takes_put c.args.item) c.self.inside.device c.make_room.new.device c.self.inside.core c.put.new.self
     c.self.inside.policy c.self.inside.policy (puts_make told told' told' c.self.inside.core c.make_room.new.core c.put.new.self c.args.item c.in_default.ensures.ok
     (written told' c.make_room.new.core c.put.new.self (Write.put c.args.item) c.in_default-put.ensures.ok
     (omega (arith, c.in_default.ensures.count, c.count.ensures.count, c.if-count-ge-LAST_NUMBER.false))
     (subst (λ f. IsItem f c.args.item) (sym c.in_default.ensures.schema)
-    (subst (λ f. IsItem f c.args.item) c.schema.ensures (c.accepts.ensures.0 c.if-not-accepts.false))))) c.self.invariant.carried (λ q old apart. c.make_room.ensures.crash q old) c.make_room.ensures.commits)
+    (subst (λ f. IsItem f c.args.item) c.schema.ensures (c.accepts.ensures.0 c.if-not-accepts.false))))) c.self.invariant.carried (λ q old apart. c.make_room.ensures.crash q old) c.make_room.ensures.commits))
 
 pub returns-then-not-accepts-clause-stays : goal.returns-then-not-accepts-clause-stays
 returns-then-not-accepts-clause-stays g c = nothing_ends c.args.self.now.core

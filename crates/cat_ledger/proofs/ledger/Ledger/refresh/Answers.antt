@@ -1,9 +1,10 @@
 use Rattle.std.proofs.Common.{sym}
 use Rattle.cat_ledger_laws.specs.lines.LineLaws.{Refreshes}
 use Rattle.cat_ledger_laws.specs.model.Replies.{IsLeft}
+use Rattle.cat_ledger.proofs.Failures.{fails_as}
 use Rattle.cat_ledger.proofs.Lasting.{call_keeps, lets_left, lets_refresh}
 use Rattle.cat_ledger.proofs.Made.{untouched}
-use Rattle.cat_ledger.proofs.Histories.{call_goes, nothing_goes}
+use Rattle.cat_ledger.proofs.Histories.{call_goes, goes_so, nothing_goes_on}
 use Rattle.cat_ledger.proofs.Taken.{takes_refresh}
 use Rattle.cat_ledger_laws.proofs.model.Taking.{takes_left}
 use Rattle.cat_ledger.proofs.Refused.{nothing_ends}
@@ -35,19 +36,25 @@ returns-in-Err-clause-full g c = rw (← c.self.view_is) (λ no. absurd (no (sym
 pub returns-clause-full : goal.returns-clause-full
 returns-clause-full g c = rw (← c.self.view_is) (λ no. absurd (no (sym c.if-is_refused.ensures)))
 
-pub returns-then-is_refused-clause-history : goal.returns-then-is_refused-clause-history
-returns-then-is_refused-clause-history g c =
-    nothing_goes g.D.Holder.bytes g.D.Holder.may_leave c.args.self.now
+pub returns-then-is_refused-clause-goes : goal.returns-then-is_refused-clause-goes
+returns-then-is_refused-clause-goes g c =
+    nothing_goes_on g.D.Holder.bytes g.D.Holder.may_leave c.args.self.now
 
-pub returns-in-Err-clause-history : goal.returns-in-Err-clause-history
-returns-in-Err-clause-history g c =
-    rw (← c.self.view_is) (call_goes g.D.Holder.bytes g.D.Holder.may_leave IsLeft lets_left takes_left c.self.inside.device c.flush_and_record.new.device c.self.inside.core c.flush_and_record.new.core
-    c.self.inside.policy c.self.inside.policy c.in-Err.ensures.err c.self.invariant.carried (λ q old apart. c.flush_and_record.ensures.crash q old) c.flush_and_record.ensures.commits)
+pub returns-in-Err-clause-fails : goal.returns-in-Err-clause-fails
+returns-in-Err-clause-fails g c = rw (← c.self.view_is) (fails_as _ _ (λ P no. no) c.in-Err.ensures.fails)
 
-pub returns-clause-history : goal.returns-clause-history
-returns-clause-history g c =
-    rw (← c.self.view_is) (call_goes g.D.Holder.bytes g.D.Holder.may_leave Refreshes lets_refresh takes_refresh c.self.inside.device c.flush_and_record.new.device c.self.inside.core c.flush_and_record.new.core
-    c.self.inside.policy c.self.inside.policy c.in_default.ensures.ok c.self.invariant.carried (λ q old apart. c.flush_and_record.ensures.crash q old) c.flush_and_record.ensures.commits)
+pub returns-clause-fails : goal.returns-clause-fails
+returns-clause-fails g c = rw (← c.self.view_is) (fails_as _ _ (λ P no. no) c.in_default.ensures.fails)
+
+pub returns-in-Err-clause-goes : goal.returns-in-Err-clause-goes
+returns-in-Err-clause-goes g c =
+    rw (← c.self.view_is) (goes_so g.D.Holder.bytes g.D.Holder.may_leave (call_goes g.D.Holder.bytes g.D.Holder.may_leave IsLeft lets_left takes_left c.self.inside.device c.flush_and_record.new.device c.self.inside.core c.flush_and_record.new.core
+    c.self.inside.policy c.self.inside.policy c.in-Err.ensures.err c.self.invariant.carried (λ q old apart. c.flush_and_record.ensures.crash q old) c.flush_and_record.ensures.commits))
+
+pub returns-clause-goes : goal.returns-clause-goes
+returns-clause-goes g c =
+    rw (← c.self.view_is) (goes_so g.D.Holder.bytes g.D.Holder.may_leave (call_goes g.D.Holder.bytes g.D.Holder.may_leave Refreshes lets_refresh takes_refresh c.self.inside.device c.flush_and_record.new.device c.self.inside.core c.flush_and_record.new.core
+    c.self.inside.policy c.self.inside.policy c.in_default.ensures.ok c.self.invariant.carried (λ q old apart. c.flush_and_record.ensures.crash q old) c.flush_and_record.ensures.commits))
 
 pub returns-then-is_refused-clause-stays : goal.returns-then-is_refused-clause-stays
 returns-then-is_refused-clause-stays g c = nothing_ends c.args.self.now.core

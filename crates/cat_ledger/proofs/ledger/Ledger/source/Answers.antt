@@ -5,8 +5,9 @@ use Rattle.cat_model.specs.Answer.{stored}
 use Rattle.cat_model.specs.View.{View, records_in}
 use Rattle.cat_ledger_state.specs.cat_views.Sources.{HoldsSource, MayReachSource, TellsSource, stored_length}
 use Rattle.cat_ledger_laws.specs.lines.ReadLaws.{IsRecordedAs}
+use Rattle.cat_ledger.proofs.Failures.{reading_fails}
 use Rattle.cat_ledger.proofs.Held.{of_recorded, unheld_where_none}
-use Rattle.cat_ledger.proofs.Histories.{reading_goes}
+use Rattle.cat_ledger.proofs.Histories.{goes_so, reading_goes}
 use Rattle.cat_ledger.proofs.Lasting.{reading_keeps}
 use Rattle.cat_ledger.proofs.Results.{either_ok, if_err, if_ok}
 use Rattle.cat_ledger.proofs.ledger.Ledger.source.Goals as goal
@@ -21,9 +22,15 @@ invariant_of-self g c =
     reading_keeps g.D.Holder.bytes g.D.Holder.may_leave g.met.D.Holder.may_stay c.self.inside.device c.get.new.shelf c.self.inside.core
     c.get.ensures.same c.get.ensures.crash c.self.invariant
 
-pub returns-clause-history : goal.returns-clause-history
-returns-clause-history g c =
-    rw (← c.self.view_is) (reading_goes g.D.Holder.bytes g.D.Holder.may_leave c.self.inside.device c.get.new.shelf c.self.inside.core c.self.inside.policy c.self.inside.policy c.get.ensures.crash)
+pub returns-clause-frame : goal.returns-clause-frame
+returns-clause-frame g c = rw (← c.self.view_is) (record { same = c.get.ensures.same; crash = c.get.ensures.crash; can = c.get.ensures.can })
+
+pub returns-clause-fails : goal.returns-clause-fails
+returns-clause-fails g c = rw (← c.self.view_is) (reading_fails c.get.result c.get.ensures.device c.get.ensures.counted c.get.ensures.can)
+
+pub returns-clause-goes : goal.returns-clause-goes
+returns-clause-goes g c =
+    rw (← c.self.view_is) (goes_so g.D.Holder.bytes g.D.Holder.may_leave (reading_goes g.D.Holder.bytes g.D.Holder.may_leave c.self.inside.device c.get.new.shelf c.self.inside.core c.self.inside.policy c.self.inside.policy c.get.ensures.crash))
 
 -- what is said of the view that is read is said of the recorded one
 pub returns-clause-held : goal.returns-clause-held

@@ -1,8 +1,15 @@
-use Rattle.std.proofs.Common.{sym, ◌∙◌}
+use Rattle.std.proofs.Common.{Err, Ok, sym, ◌∙◌}
 use Rattle.cat_ledger.proofs.upkeep.Made.{left_ended, copied_made}
 use Rattle.cat_ledger.proofs.upkeep.Spared.{copied_spares}
+use Rattle.cat_ledger.proofs.Failures.{either, reading_fails}
 use Rattle.cat_ledger.proofs.Refused.{ended_segments}
 use Rattle.cat_ledger.proofs.upkeep.merges.copy.Goals as goal
+
+pub returns-in-Err-clause-fails : goal.returns-in-Err-clause-fails
+returns-in-Err-clause-fails g c = reading_fails (Err c.in-Err.refusal) c.in-Err.ensures.device c.in-Err.ensures.counted (either c.copy_rows.ensures.can)
+
+pub returns-clause-fails : goal.returns-clause-fails
+returns-clause-fails g c = reading_fails (Ok c.in-Some.passed) tt c.in_default.ensures.counted (either c.copy_rows.ensures.can)
 
 pub returns-in-Err-clause-err : goal.returns-in-Err-clause-err
 returns-in-Err-clause-err g c =

@@ -1,10 +1,17 @@
 use Rattle.cat_ledger.proofs.upkeep.Made.{left_failed, all_passed, installed_made}
 use Rattle.cat_ledger.proofs.upkeep.Spared.{installed_spares}
+use Rattle.cat_ledger.proofs.Failures.{writing_fails}
 use Rattle.cat_ledger.proofs.Refused.{failed_segments}
 use Rattle.cat_ledger.proofs.upkeep.merges.finish.Goals as goal
 
 pub install-requires : goal.install-requires
 install-requires g c = all_passed c.args.core.now c.count-count.ensures.shape c.requires.some c.requires.all
+
+pub returns-in-Err-clause-fails : goal.returns-in-Err-clause-fails
+returns-in-Err-clause-fails g c = writing_fails _ c.in-Err.ensures.fails c.install.ensures.rises
+
+pub returns-clause-fails : goal.returns-clause-fails
+returns-clause-fails g c = writing_fails _ c.in_default.ensures.fails c.install.ensures.rises
 
 pub returns-in-Err-clause-err : goal.returns-in-Err-clause-err
 returns-in-Err-clause-err g c =

@@ -3,10 +3,17 @@ use Rattle.cat_base.specs.declared.refusal.Refusal.TheVariants.{Memory}
 use Rattle.cat_ledger_state.specs.Cores.{MayCopy}
 use Rattle.cat_ledger_state.proofs.Merging.{idle_to_copy}
 use Rattle.cat_ledger_state.proofs.Results.{if_ok, on_any}
+use Rattle.cat_ledger.proofs.Failures.{fails_or}
 use Rattle.cat_ledger.proofs.upkeep.merges.merge_step.Goals as goal
 
 pub returns-then-is_merging-clause-ok : goal.returns-then-is_merging-clause-ok
 returns-then-is_merging-clause-ok g c = if_ok _ _ c.go_on.result (λ news k. k c.args.policy) c.go_on.ensures.ok
+
+pub returns-then-is_merging-clause-fails : goal.returns-then-is_merging-clause-fails
+returns-then-is_merging-clause-fails g c = c.go_on.ensures.fails
+
+pub returns-clause-fails : goal.returns-clause-fails
+returns-clause-fails g c = fails_or c.begin_window.result c.begin_window.ensures.fails
 
 pub returns-clause-reach : goal.returns-clause-reach
 returns-clause-reach g c =
