@@ -7,7 +7,6 @@ use cat_facets::Facets;
 use cat_facets::cat_search::Page;
 
 /// What stands behind `OK`, and on the further lines.
-#[derive(Drop)]
 pub enum Answer {
     /// A number: of a write, of a commit, a token, or a count.
     Number(u64),
@@ -25,4 +24,18 @@ pub enum Answer {
     CommitText(Text),
     /// What maintenance tells.
     News(News),
+}
+
+impl Drop for Answer {
+    fn drop(self) {
+        match self {
+            Answer::Number(_) => {}
+            Answer::Found(it) => drop(it),
+            Answer::Counts(it) => drop(it),
+            Answer::Source(it) => drop(it),
+            Answer::Names(it) => drop(it),
+            Answer::CommitText(it) => drop(it),
+            Answer::News(it) => drop(it),
+        }
+    }
 }
