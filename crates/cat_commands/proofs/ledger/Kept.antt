@@ -3,12 +3,10 @@ use Rattle.std.proofs.Common.{◌≡◌, ap, refl, subst, sym}
 use Rattle.std.specs.Prelude.{Err, IfErr, Ok, OnErr, Option, Result}
 use Rattle.cat_base.specs.declared.refusal.Refusal.{Refusal}
 use Rattle.cat_base.specs.declared.refusal.Refusal.TheVariants.{Memory}
-use Rattle.cat_directory.specs.Devices.{FileContent}
-use Rattle.cat_directory.specs.declared.name.FileName.{FileName}
 use Rattle.cat_ledger_laws.specs.shape.Shapes.{MergingShape, Shape}
 use Rattle.cat_ledger_laws.specs.shape.Ties.{ToldFiles}
 use Rattle.cat_ledger_laws.specs.lines.LineLaws.{NothingChanges}
-use Rattle.cat_ledger.specs.Ledgers.{LedgerOnDevice, Spares, device_in, shape_in}
+use Rattle.cat_ledger.specs.Ledgers.{LedgerOnDevice, device_in, shape_in}
 use Rattle.cat_ledger.specs.Refusals.{KeepsMerge, KeepsSegments}
 use Rattle.cat_protocol.specs.declared.replies.answer.Answer.{Answer}
 use Rattle.cat_commands.specs.declared.ledger.chores.Chore.{Chore}
@@ -18,10 +16,6 @@ use Rattle.cat_commands.specs.ledger.Chores.{KeepsBehind, ReachesFor}
 pub unchanged : {D : Type 0} (bytes : D → ToldFiles) (old new : LedgerOnDevice D) → new ≡ old
     → NothingChanges (bytes (device_in old)) (shape_in old) (bytes (device_in new)) (shape_in new)
 unchanged bytes old new same = (ap shape_in same, λ q. ap (λ l. bytes (device_in l) q) same)
-
-pub spares_same : {D : Type 0} (left : D → FileName → FileContent → Type 0) (old new : LedgerOnDevice D) → device_in new ≡ device_in old
-    → Spares left old new
-spares_same left old new same q fresh merging e might = subst (λ d. left d q e) same might
 
 -- ---- behind a refusal
 

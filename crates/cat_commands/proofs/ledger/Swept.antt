@@ -1,8 +1,6 @@
 -- What a sweep makes that is answered.
 use Rattle.std.proofs.Common.{◌≡◌, ℕ, Bool, true, false, ◌&&◌, [], ap, refl, sym, ◌∙◌}
-use Rattle.std.specs.Prelude.{◌==◌, Result, Ok, Err, IfErr}
-use Rattle.cat_base.specs.declared.refusal.Refusal.{Refusal}
-use Rattle.cat_base.specs.declared.refusal.Refusal.TheVariants.{Memory}
+use Rattle.std.specs.Prelude.{◌==◌}
 use Rattle.cat_model.specs.Files.{Name}
 use Rattle.cat_directory.specs.Devices.{FileContent}
 use Rattle.cat_directory.specs.Names.{name_of}
@@ -14,7 +12,6 @@ use Rattle.cat_ledger_laws.specs.shape.Ties.{Makes, ToldFiles}
 use Rattle.cat_ledger.specs.Lasting.{IsCarried}
 use Rattle.cat_ledger.specs.Ledgers.{DoesCall, LedgerOnDevice, device_in, shape_in}
 use Rattle.cat_ledger.specs.cat_lifetimes.refs.Counts.{is_pending}
-use Rattle.cat_protocol.specs.declared.replies.answer.Answer.{Answer}
 use Rattle.cat_commands.specs.ledger.Chores.{IsSwept, SweepsFiles, pending_in}
 
 -- each name keeps its users
@@ -47,8 +44,3 @@ swept_so bytes left old new call swept none done carried = record {
       );
   others = swept.others;
 }
-
--- what counts nothing counts nothing for want of memory
-pub quiet_same : (n : ℕ) (r : Result Answer Refusal) → IfErr r (λ e. e ≡ Memory → n ≡ n)
-quiet_same n (Ok a) = tt
-quiet_same n (Err e) = λ memory. refl

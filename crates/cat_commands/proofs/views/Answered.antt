@@ -14,7 +14,7 @@ use Rattle.cat_model.specs.Text.{Text}
 use Rattle.cat_model.specs.View.{Leaf, View}
 use Rattle.cat_model.proofs.Lists.{All-weaken}
 use Rattle.cat_items.specs.Reading.{json}
-use Rattle.cat_directory.specs.Devices.{CountsOne, ReadingCount}
+use Rattle.cat_directory.specs.Devices.{ReadingCount}
 use Rattle.cat_directory.specs.declared.name.FileName.TheVariants as file
 use Rattle.cat_cached_sets.specs.cat_views.Sources.{TellsSource, has_live}
 use Rattle.cat_ledger_laws.specs.model.Plans.{MergePolicy}
@@ -102,17 +102,6 @@ reading_refusal old new Memory counted = inl refl
 reading_refusal old new Device counted = inr (inl refl)
 reading_refusal old new Damaged counted = inr (inr refl)
 reading_refusal old new _ counted = absurd counted
-
--- one that reads where the token is held counts its failure, and where it is for memory, it counts nothing
-module _ (old new : ℕ) (held : Bool) (e : Refusal) (unheld : held ≡ false → e ≡ NotHeld) (counted : held ≡ true → ReadingCount old new e) where
-  read_refused : (e ≡ NotHeld → ⊥) → ReadingCount old new e
-  read_refused other = elim (cases_Bool held) [ inl is ↦ counted is | inr none ↦ absurd (other (unheld none)) ]
-
-  pub source_counts : e ≡ Device → CountsOne old new
-  source_counts is = subst (λ x. ReadingCount old new x) is (read_refused (λ none. absurd (let no : Device ≡ NotHeld = sym is ∙ none in cc)))
-
-  pub source_quiet : e ≡ Memory → new ≡ old
-  source_quiet is = subst (λ x. ReadingCount old new x) is (read_refused (λ none. absurd (let no : Memory ≡ NotHeld = sym is ∙ none in cc)))
 
 -- ---- the text of an item
 

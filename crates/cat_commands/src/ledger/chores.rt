@@ -1,15 +1,15 @@
 //! The commands of maintenance, which session 0 alone may give.
 //!
 //! Lucene's `IndexWriter.maybeMerge`, `forceMerge(1)` and `deleteUnusedFiles`, and what `getDocStats` tells.
-ghost use Rattle.cat_directory.specs.Devices.{CountsOne};
-ghost use Rattle.std.specs.Prelude.{◌≡◌, ◌≢◌, ◌⊎◌, IfOk, IfErr, OnErr, Err, length, ◌≤◌};
+ghost use Rattle.cat_directory.specs.Frames.{CountsFailures};
+ghost use Rattle.std.specs.Prelude.{◌≡◌, ◌≢◌, ◌⊎◌, IfOk, IfErr, OnErr, Err, length};
 ghost use Rattle.cat_base.specs.declared.refusal.Refusal.TheVariants.{Damaged, Device, Line as NoForm, Memory};
 ghost use Rattle.cat_model.specs.Lines.{Said};
 ghost use Rattle.cat_model.specs.Run as run;
 ghost use Rattle.cat_cached_sets.specs.filters.Known.{Remembers, RemembersBelow};
 ghost use Rattle.cat_ledger.specs.cat_ledger_state.Cores.{LacksInput, LacksToCopy, MayCopy};
 ghost use Rattle.cat_ledger.specs.Answering.{AnswersCommand, AnswersSaid};
-ghost use Rattle.cat_ledger.specs.Histories.{Event, Goes};
+ghost use Rattle.cat_ledger.specs.Histories.{GoesOn};
 ghost use Rattle.cat_ledger.specs.Lasting.{IsCarried};
 ghost use Rattle.cat_ledger.specs.Ledgers.{Spares, device_in, policy_in, shape_in};
 ghost use Rattle.cat_ledger.specs.Refusals.{HasUntoldInput, KeepsSegments};
@@ -50,15 +50,10 @@ fn merge<D: Directory + Shelf>(
     ensures lacks { IfErr result (λ e. e ≡ Damaged → LacksToCopy (D.bytes (device_in ledger.old)) (shape_in ledger.old).merging
         × LacksInput (D.bytes (device_in ledger.old)) (shape_in ledger.old).merging) }
     ensures untold { IfErr result (λ e. e ≡ Damaged → HasUntoldInput (D.bytes (device_in ledger.old)) (shape_in ledger.old).merging) }
-    ensures device { IfErr result (λ e. e ≡ Device → D.can_fail (device_in ledger.old)) }
-    ensures counted { IfErr result (λ e. e ≡ Device → CountsOne (D.fault_count (device_in ledger.old)) (D.fault_count (device_in ledger.new))) }
-    ensures quiet { IfErr result (λ e. e ≡ Memory → D.fault_count (device_in ledger.new) ≡ D.fault_count (device_in ledger.old)) }
+    ensures fails { CountsFailures D.can_fail D.fault_count (device_in ledger.old) (device_in ledger.new) result }
     ensures crash { Spares D.may_leave ledger.old ledger.new }
-    ensures can { D.can_fail (device_in ledger.new) → D.can_fail (device_in ledger.old) }
-    ensures rises { D.fault_count (device_in ledger.old) ≤ D.fault_count (device_in ledger.new) }
-    ensures history { Goes D.bytes D.may_leave Event.Other ledger.old ledger.new }
+    ensures goes { GoesOn D.bytes D.may_leave ledger.old ledger.new }
     ensures segments { OnErr result (KeepsSegments (shape_in ledger.old) (shape_in ledger.new)) }
-    ensures policy { policy_in ledger.new ≡ policy_in ledger.old }
     ensures sets { filters.new ≡ sets_left Chore.Merge (shape_in ledger.new) filters.old }
     ensures known { Remembers filters.old filters.new }
     ensures below { RemembersBelow filters.old filters.new }
@@ -76,14 +71,9 @@ fn sweep<D: Directory + Shelf>(ledger: &mut Ledger<D>) -> Result<Answer, Refusal
     ensures files { SweepsFiles D.bytes D.may_leave ledger.old ledger.new }
     ensures swept { IsCarried (D.bytes (device_in ledger.old)) (shape_in ledger.old) → IfOk result (λ a. IsSwept D.bytes ledger.old ledger.new) }
     ensures refusal { IfErr result (λ e. (e ≡ Memory) ⊎ (e ≡ Device)) }
-    ensures device { IfErr result (λ e. e ≡ Device → D.can_fail (device_in ledger.old)) }
-    ensures counted { IfErr result (λ e. e ≡ Device → CountsOne (D.fault_count (device_in ledger.old)) (D.fault_count (device_in ledger.new))) }
-    ensures quiet { IfErr result (λ e. e ≡ Memory → D.fault_count (device_in ledger.new) ≡ D.fault_count (device_in ledger.old)) }
+    ensures fails { CountsFailures D.can_fail D.fault_count (device_in ledger.old) (device_in ledger.new) result }
     ensures crash { SparesUsed D.may_leave ledger.old ledger.new }
-    ensures can { D.can_fail (device_in ledger.new) → D.can_fail (device_in ledger.old) }
-    ensures rises { D.fault_count (device_in ledger.old) ≤ D.fault_count (device_in ledger.new) }
-    ensures history { Goes D.bytes D.may_leave Event.Other ledger.old ledger.new }
-    ensures policy { policy_in ledger.new ≡ policy_in ledger.old }
+    ensures goes { GoesOn D.bytes D.may_leave ledger.old ledger.new }
 {
     match ledger.sweep() {
         Ok(files) => Ok(Answer::News(News::Swept(files))),
@@ -121,15 +111,10 @@ pub fn maintain<D: Directory + Shelf>(
     ensures lacks { chore ≡ Merge → IfErr result (λ e. e ≡ Damaged → LacksToCopy (D.bytes (device_in ledger.old)) (shape_in ledger.old).merging
         × LacksInput (D.bytes (device_in ledger.old)) (shape_in ledger.old).merging) }
     ensures untold { chore ≡ Merge → IfErr result (λ e. e ≡ Damaged → HasUntoldInput (D.bytes (device_in ledger.old)) (shape_in ledger.old).merging) }
-    ensures device { IfErr result (λ e. e ≡ Device → D.can_fail (device_in ledger.old)) }
-    ensures counted { IfErr result (λ e. e ≡ Device → CountsOne (D.fault_count (device_in ledger.old)) (D.fault_count (device_in ledger.new))) }
-    ensures quiet { IfErr result (λ e. e ≡ Memory → D.fault_count (device_in ledger.new) ≡ D.fault_count (device_in ledger.old)) }
+    ensures fails { CountsFailures D.can_fail D.fault_count (device_in ledger.old) (device_in ledger.new) result }
     ensures crash { SparesUsed D.may_leave ledger.old ledger.new }
-    ensures can { D.can_fail (device_in ledger.new) → D.can_fail (device_in ledger.old) }
-    ensures rises { D.fault_count (device_in ledger.old) ≤ D.fault_count (device_in ledger.new) }
-    ensures history { Goes D.bytes D.may_leave Event.Other ledger.old ledger.new }
+    ensures goes { GoesOn D.bytes D.may_leave ledger.old ledger.new }
     ensures keeps { OnErr result (KeepsBehind chore (shape_in ledger.old) (shape_in ledger.new)) }
-    ensures policy { policy_in ledger.new ≡ policy_in ledger.old }
     ensures sets { session ≡ 0 → filters.new ≡ sets_left chore (shape_in ledger.new) filters.old }
     ensures known { Remembers filters.old filters.new }
     ensures below { RemembersBelow filters.old filters.new }

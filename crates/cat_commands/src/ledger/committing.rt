@@ -1,8 +1,8 @@
 //! The commands that keep commits, and let them go.
 //!
 //! Lucene's `IndexWriter.commit` with `setLiveCommitData`, and `SnapshotDeletionPolicy.snapshot` and `release`.
-ghost use Rattle.cat_directory.specs.Devices.{CountsOne};
-ghost use Rattle.std.specs.Prelude.{◌≡◌, ◌⊎◌, ℕ, ◌<◌, IfErr, OnErr, Ok, Err, Some, ◌≤◌};
+ghost use Rattle.cat_directory.specs.Frames.{CountsFailures};
+ghost use Rattle.std.specs.Prelude.{◌≡◌, ◌⊎◌, ℕ, ◌<◌, IfErr, OnErr, Ok, Err, Some};
 ghost use Rattle.cat_base.specs.declared.refusal.Refusal.TheVariants.{Device, Memory, Spent};
 ghost use Rattle.cat_model.specs.Heard.{commit_text_of};
 ghost use Rattle.cat_model.specs.Limits.{last_number, snapshot_limit};
@@ -11,7 +11,7 @@ ghost use Rattle.cat_model.specs.State.{snapshots_in};
 ghost use Rattle.cat_ledger_laws.specs.shape.Steps.{newest_generation};
 ghost use Rattle.cat_ledger.specs.cat_ledger_state.Cores.{MayNotFlush};
 ghost use Rattle.cat_ledger.specs.Answering.{AnswersSaid};
-ghost use Rattle.cat_ledger.specs.Histories.{Event, Goes, GoesBy};
+ghost use Rattle.cat_ledger.specs.Histories.{GoesBy, GoesOn};
 ghost use Rattle.cat_ledger.specs.Ledgers.{Spares, device_in, policy_in, shape_in};
 ghost use Rattle.cat_ledger.specs.Refusals.{KeepsMerge};
 ghost use Rattle.cat_protocol.specs.replies.Reply.{reply_of};
@@ -36,12 +36,8 @@ pub fn commit<D: Directory + Shelf>(ledger: &mut Ledger<D>, text: &str) -> Resul
     ensures spent { commit_text_of text.now ≡ Ok text.now → IfErr result (λ e. e ≡ Spent
         → (last_number < (shape_in ledger.old).next_generation) ⊎ MayNotFlush (shape_in ledger.old)) }
     ensures due { IfErr result (λ e. (e ≡ Memory) ⊎ (e ≡ Device) → MayNotFlush (shape_in ledger.old) → ⊥) }
-    ensures device { commit_text_of text.now ≡ Ok text.now → IfErr result (λ e. e ≡ Device → D.can_fail (device_in ledger.old)) }
+    ensures fails { CountsFailures D.can_fail D.fault_count (device_in ledger.old) (device_in ledger.new) result }
     ensures crash { Spares D.may_leave ledger.old ledger.new }
-    ensures counted { commit_text_of text.now ≡ Ok text.now → IfErr result (λ e. e ≡ Device → CountsOne (D.fault_count (device_in ledger.old)) (D.fault_count (device_in ledger.new))) }
-    ensures quiet { IfErr result (λ e. e ≡ Memory → D.fault_count (device_in ledger.new) ≡ D.fault_count (device_in ledger.old)) }
-    ensures can { D.can_fail (device_in ledger.new) → D.can_fail (device_in ledger.old) }
-    ensures rises { D.fault_count (device_in ledger.old) ≤ D.fault_count (device_in ledger.new) }
     ensures history { GoesBy D.bytes D.may_leave (Some (Said.commit text.now)) (reply_of result) ledger.old ledger.new }
     ensures stays { OnErr result (KeepsMerge (shape_in ledger.old) (shape_in ledger.new)) }
     ensures policy { policy_in ledger.new ≡ policy_in ledger.old }
@@ -62,11 +58,8 @@ pub fn snapshot<D: Directory + Shelf>(ledger: &mut Ledger<D>) -> Result<Answer, 
     ensures due { IfErr result (λ e. e ≡ Memory → (g : ℕ) × (newest_generation (shape_in ledger.old).commits ≡ Some g)
         × (snapshots_in (shape_in ledger.old).taken g < snapshot_limit)) }
     ensures err { OnErr result (ledger.new ≡ ledger.old) }
-    ensures crash { Spares D.may_leave ledger.old ledger.new }
-    ensures can { D.can_fail (device_in ledger.new) → D.can_fail (device_in ledger.old) }
-    ensures rises { D.fault_count (device_in ledger.old) ≤ D.fault_count (device_in ledger.new) }
-    ensures history { Goes D.bytes D.may_leave Event.Other ledger.old ledger.new }
-    ensures policy { policy_in ledger.new ≡ policy_in ledger.old }
+    ensures same { device_in ledger.new ≡ device_in ledger.old }
+    ensures goes { GoesOn D.bytes D.may_leave ledger.old ledger.new }
 {
     match ledger.snapshot() {
         Ok(generation) => Ok(Answer::Number(generation)),
@@ -85,11 +78,8 @@ pub fn release_snapshot<D: Directory + Shelf>(
     ensures answers { (session : ℕ) → AnswersSaid D.bytes session (Said.release_snapshot generation) ledger.old (reply_of result) ledger.new }
     ensures due { IfErr result (λ e. e ≡ Memory → 0 < snapshots_in (shape_in ledger.old).taken generation) }
     ensures err { OnErr result (ledger.new ≡ ledger.old) }
-    ensures crash { Spares D.may_leave ledger.old ledger.new }
-    ensures can { D.can_fail (device_in ledger.new) → D.can_fail (device_in ledger.old) }
-    ensures rises { D.fault_count (device_in ledger.old) ≤ D.fault_count (device_in ledger.new) }
-    ensures history { Goes D.bytes D.may_leave Event.Other ledger.old ledger.new }
-    ensures policy { policy_in ledger.new ≡ policy_in ledger.old }
+    ensures same { device_in ledger.new ≡ device_in ledger.old }
+    ensures goes { GoesOn D.bytes D.may_leave ledger.old ledger.new }
 {
     match ledger.unsnapshot(generation) {
         Ok(left) => Ok(Answer::Number(left as u64)),

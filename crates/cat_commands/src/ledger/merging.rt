@@ -1,14 +1,14 @@
 //! Merges, step by step, as session 0 asks for them.
 //!
 //! Lucene's `IndexWriter.maybeMerge` and `forceMerge(1)`.
-ghost use Rattle.cat_directory.specs.Devices.{CountsOne};
-ghost use Rattle.std.specs.Prelude.{◌≡◌, ◌⊎◌, IfErr, OnErr, ◌≤◌};
-ghost use Rattle.cat_base.specs.declared.refusal.Refusal.TheVariants.{Damaged, Device, Memory};
+ghost use Rattle.cat_directory.specs.Frames.{CountsFailures};
+ghost use Rattle.std.specs.Prelude.{◌≡◌, IfErr, OnErr};
+ghost use Rattle.cat_base.specs.declared.refusal.Refusal.TheVariants.{Damaged, Memory};
 ghost use Rattle.cat_model.specs.Run as run;
 ghost use Rattle.cat_ledger.specs.cat_ledger_state.Cores.{LacksInput, LacksToCopy, MayCopy};
 ghost use Rattle.cat_ledger.specs.upkeep.News as merges;
 ghost use Rattle.cat_ledger.specs.Answering.{AnswersCommand};
-ghost use Rattle.cat_ledger.specs.Histories.{Event, Goes};
+ghost use Rattle.cat_ledger.specs.Histories.{GoesOn};
 ghost use Rattle.cat_ledger.specs.Ledgers.{Spares, device_in, policy_in, shape_in};
 ghost use Rattle.cat_ledger.specs.Refusals.{HasUntoldInput, KeepsMerge, KeepsSegments};
 ghost use Rattle.cat_protocol.specs.replies.Reply.{news_in_reply, reply_of};
@@ -41,15 +41,10 @@ pub(crate) fn merge_step<D: Directory + Shelf>(ledger: &mut Ledger<D>) -> Result
     ensures lacks { IfErr result (λ e. e ≡ Damaged → LacksToCopy (D.bytes (device_in ledger.old)) (shape_in ledger.old).merging
         × LacksInput (D.bytes (device_in ledger.old)) (shape_in ledger.old).merging) }
     ensures untold { IfErr result (λ e. e ≡ Damaged → HasUntoldInput (D.bytes (device_in ledger.old)) (shape_in ledger.old).merging) }
-    ensures device { IfErr result (λ e. e ≡ Device → D.can_fail (device_in ledger.old)) }
+    ensures fails { CountsFailures D.can_fail D.fault_count (device_in ledger.old) (device_in ledger.new) result }
     ensures crash { Spares D.may_leave ledger.old ledger.new }
-    ensures counted { IfErr result (λ e. e ≡ Device → CountsOne (D.fault_count (device_in ledger.old)) (D.fault_count (device_in ledger.new))) }
-    ensures quiet { IfErr result (λ e. e ≡ Memory → D.fault_count (device_in ledger.new) ≡ D.fault_count (device_in ledger.old)) }
-    ensures can { D.can_fail (device_in ledger.new) → D.can_fail (device_in ledger.old) }
-    ensures rises { D.fault_count (device_in ledger.old) ≤ D.fault_count (device_in ledger.new) }
-    ensures history { Goes D.bytes D.may_leave Event.Other ledger.old ledger.new }
+    ensures goes { GoesOn D.bytes D.may_leave ledger.old ledger.new }
     ensures segments { OnErr result (KeepsSegments (shape_in ledger.old) (shape_in ledger.new)) }
-    ensures policy { policy_in ledger.new ≡ policy_in ledger.old }
 {
     match ledger.merge_step() {
         Ok(news) => Ok(Answer::News(news_told(news))),
@@ -61,16 +56,11 @@ pub(crate) fn merge_step<D: Directory + Shelf>(ledger: &mut Ledger<D>) -> Result
 pub(crate) fn force<D: Directory + Shelf>(ledger: &mut Ledger<D>) -> Result<Answer, Refusal>
     ensures answers { AnswersCommand D.bytes 0 (run.Command.chore run.Chore.force) ledger.old (reply_of result) ledger.new }
     ensures refusal { IfErr result (MayRefuseForce (shape_in ledger.old)) }
-    ensures device { IfErr result (λ e. e ≡ Device → D.can_fail (device_in ledger.old)) }
+    ensures fails { CountsFailures D.can_fail D.fault_count (device_in ledger.old) (device_in ledger.new) result }
     ensures crash { Spares D.may_leave ledger.old ledger.new }
-    ensures counted { IfErr result (λ e. e ≡ Device → CountsOne (D.fault_count (device_in ledger.old)) (D.fault_count (device_in ledger.new))) }
-    ensures quiet { IfErr result (λ e. e ≡ Memory → D.fault_count (device_in ledger.new) ≡ D.fault_count (device_in ledger.old)) }
-    ensures can { D.can_fail (device_in ledger.new) → D.can_fail (device_in ledger.old) }
-    ensures rises { D.fault_count (device_in ledger.old) ≤ D.fault_count (device_in ledger.new) }
-    ensures history { Goes D.bytes D.may_leave Event.Other ledger.old ledger.new }
+    ensures goes { GoesOn D.bytes D.may_leave ledger.old ledger.new }
     ensures stays { OnErr result (KeepsMerge (shape_in ledger.old) (shape_in ledger.new)) }
     ensures segments { OnErr result (KeepsSegments (shape_in ledger.old) (shape_in ledger.new)) }
-    ensures policy { policy_in ledger.new ≡ policy_in ledger.old }
 {
     match ledger.force() {
         Ok(news) => Ok(Answer::News(news_told(news))),

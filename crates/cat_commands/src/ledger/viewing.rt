@@ -1,15 +1,15 @@
 //! The commands that record views, and let them go.
 //!
 //! Lucene's `SearcherLifetimeManager.record` and `prune`.
-ghost use Rattle.cat_directory.specs.Devices.{CountsOne};
-ghost use Rattle.std.specs.Prelude.{◌≡◌, ℕ, ◌⊎◌, IfErr, OnErr, Err, ◌≤◌};
+ghost use Rattle.cat_directory.specs.Frames.{CountsFailures};
+ghost use Rattle.std.specs.Prelude.{◌≡◌, ℕ, ◌⊎◌, IfErr, OnErr, Err};
 ghost use Rattle.cat_base.specs.declared.refusal.Refusal.TheVariants.{Device, Full, Memory, Spent};
 ghost use Rattle.cat_model.specs.Lines.{Said};
 ghost use Rattle.cat_ledger.specs.cat_ledger_state.Cores.{MayNotFlush};
 ghost use Rattle.cat_ledger_laws.specs.lines.LineLaws.{MayRefresh};
 ghost use Rattle.cat_ledger.specs.Answering.{AnswersSaid};
-ghost use Rattle.cat_ledger.specs.Histories.{Event, Goes};
-ghost use Rattle.cat_ledger.specs.Ledgers.{Spares, device_in, policy_in, shape_in};
+ghost use Rattle.cat_ledger.specs.Histories.{GoesOn};
+ghost use Rattle.cat_ledger.specs.Ledgers.{Spares, device_in, shape_in};
 ghost use Rattle.cat_ledger.specs.Refusals.{KeepsMerge};
 ghost use Rattle.cat_protocol.specs.replies.Reply.{reply_of};
 
@@ -30,15 +30,10 @@ pub fn refresh<D: Directory + Shelf>(ledger: &mut Ledger<D>) -> Result<Answer, R
     ensures full { (MayRefresh (shape_in ledger.old) → ⊥) → (result ≡ Err Full) × (ledger.new ≡ ledger.old) }
     ensures spent { IfErr result (λ e. e ≡ Spent → MayNotFlush (shape_in ledger.old)) }
     ensures due { IfErr result (λ e. (e ≡ Memory) ⊎ (e ≡ Device) → MayNotFlush (shape_in ledger.old) → ⊥) }
-    ensures device { IfErr result (λ e. e ≡ Device → D.can_fail (device_in ledger.old)) }
+    ensures fails { CountsFailures D.can_fail D.fault_count (device_in ledger.old) (device_in ledger.new) result }
     ensures crash { Spares D.may_leave ledger.old ledger.new }
-    ensures counted { IfErr result (λ e. e ≡ Device → CountsOne (D.fault_count (device_in ledger.old)) (D.fault_count (device_in ledger.new))) }
-    ensures quiet { IfErr result (λ e. e ≡ Memory → D.fault_count (device_in ledger.new) ≡ D.fault_count (device_in ledger.old)) }
-    ensures can { D.can_fail (device_in ledger.new) → D.can_fail (device_in ledger.old) }
-    ensures rises { D.fault_count (device_in ledger.old) ≤ D.fault_count (device_in ledger.new) }
-    ensures history { Goes D.bytes D.may_leave Event.Other ledger.old ledger.new }
+    ensures goes { GoesOn D.bytes D.may_leave ledger.old ledger.new }
     ensures stays { OnErr result (KeepsMerge (shape_in ledger.old) (shape_in ledger.new)) }
-    ensures policy { policy_in ledger.new ≡ policy_in ledger.old }
 {
     match ledger.refresh() {
         Ok(token) => Ok(Answer::Number(token)),
@@ -54,11 +49,8 @@ pub fn prune<D: Directory + Shelf>(ledger: &mut Ledger<D>, count: u64) -> Result
     ensures answers { (session : ℕ) → AnswersSaid D.bytes session (Said.prune count) ledger.old (reply_of result) ledger.new }
     ensures refusal { IfErr result (λ e. e ≡ Memory) }
     ensures err { OnErr result (ledger.new ≡ ledger.old) }
-    ensures crash { Spares D.may_leave ledger.old ledger.new }
-    ensures can { D.can_fail (device_in ledger.new) → D.can_fail (device_in ledger.old) }
-    ensures rises { D.fault_count (device_in ledger.old) ≤ D.fault_count (device_in ledger.new) }
-    ensures history { Goes D.bytes D.may_leave Event.Other ledger.old ledger.new }
-    ensures policy { policy_in ledger.new ≡ policy_in ledger.old }
+    ensures same { device_in ledger.new ≡ device_in ledger.old }
+    ensures goes { GoesOn D.bytes D.may_leave ledger.old ledger.new }
 {
     match ledger.prune(count) {
         Ok(went) => Ok(Answer::Number(went)),

@@ -1,9 +1,9 @@
 //! The commands that write: each accepted one takes the next number.
 //!
 //! Lucene's `IndexWriter.updateDocument` and `deleteDocuments`, of the texts that a line carries.
-ghost use Rattle.cat_directory.specs.Devices.{CountsOne};
+ghost use Rattle.cat_directory.specs.Frames.{CountsFailures};
 ghost use Rattle.std.specs.Prelude.{◌≡◌, ◌≢◌, ◌⊎◌, ℕ, ◌≤◌, length, IfOk, IfErr, IfSome, OnErr, Result, Err, Ok, true};
-ghost use Rattle.cat_base.specs.declared.refusal.Refusal.TheVariants.{Device, Memory, Query as NoQuery, Spent};
+ghost use Rattle.cat_base.specs.declared.refusal.Refusal.TheVariants.{Memory, Query as NoQuery, Spent};
 ghost use Rattle.cat_model.specs.Faults.{Fault};
 ghost use Rattle.cat_model.specs.Grammar.{Spells};
 ghost use Rattle.cat_model.specs.Heard.{IsQueryOf, id_of};
@@ -15,8 +15,8 @@ ghost use Rattle.cat_items.specs.Reading.{item_of, source_fault};
 ghost use Rattle.cat_cached_sets.specs.cat_query.View.{query_of};
 ghost use Rattle.cat_ledger.specs.cat_ledger_state.Cores.{MayNotFlush};
 ghost use Rattle.cat_ledger.specs.Answering.{AnswersSaid};
-ghost use Rattle.cat_ledger.specs.Histories.{Event, Goes};
-ghost use Rattle.cat_ledger.specs.Ledgers.{Spares, device_in, policy_in, shape_in};
+ghost use Rattle.cat_ledger.specs.Histories.{GoesOn};
+ghost use Rattle.cat_ledger.specs.Ledgers.{Spares, device_in, shape_in};
 ghost use Rattle.cat_ledger.specs.Refusals.{KeepsMerge};
 ghost use Rattle.cat_protocol.specs.replies.Reply.{reply_of};
 
@@ -72,15 +72,10 @@ pub fn put<D: Directory + Shelf>(
     ensures due { IfSome (source_fault text.now) (λ e. result ≡ Err e) }
     ensures spent { IfErr result (λ e. e ≡ Spent → (last_number ≤ (shape_in ledger.old).count)
         ⊎ ((buffer_limit ≤ length (shape_in ledger.old).buffered) × MayNotFlush (shape_in ledger.old))) }
-    ensures device { IfErr result (λ e. e ≡ Device → D.can_fail (device_in ledger.old)) }
+    ensures fails { CountsFailures D.can_fail D.fault_count (device_in ledger.old) (device_in ledger.new) result }
     ensures crash { Spares D.may_leave ledger.old ledger.new }
-    ensures counted { IfErr result (λ e. e ≡ Device → CountsOne (D.fault_count (device_in ledger.old)) (D.fault_count (device_in ledger.new))) }
-    ensures quiet { IfErr result (λ e. e ≡ Memory → D.fault_count (device_in ledger.new) ≡ D.fault_count (device_in ledger.old)) }
-    ensures can { D.can_fail (device_in ledger.new) → D.can_fail (device_in ledger.old) }
-    ensures rises { D.fault_count (device_in ledger.old) ≤ D.fault_count (device_in ledger.new) }
-    ensures history { Goes D.bytes D.may_leave Event.Other ledger.old ledger.new }
+    ensures goes { GoesOn D.bytes D.may_leave ledger.old ledger.new }
     ensures stays { OnErr result (KeepsMerge (shape_in ledger.old) (shape_in ledger.new)) }
-    ensures policy { policy_in ledger.new ≡ policy_in ledger.old }
 {
     let item = match read_item(alloc, ledger, text) {
         Ok(item) => item,
@@ -102,11 +97,8 @@ pub fn delete<D: Directory + Shelf>(ledger: &mut Ledger<D>, id: &str) -> Result<
     ensures due { IfErr (id_of id.now) (λ e. result ≡ Err e) }
     ensures full { is_id id.now ≡ true → last_number ≤ (shape_in ledger.old).count → result ≡ Err Spent }
     ensures err { OnErr result (ledger.new ≡ ledger.old) }
-    ensures crash { Spares D.may_leave ledger.old ledger.new }
-    ensures can { D.can_fail (device_in ledger.new) → D.can_fail (device_in ledger.old) }
-    ensures rises { D.fault_count (device_in ledger.old) ≤ D.fault_count (device_in ledger.new) }
-    ensures history { Goes D.bytes D.may_leave Event.Other ledger.old ledger.new }
-    ensures policy { policy_in ledger.new ≡ policy_in ledger.old }
+    ensures same { device_in ledger.new ≡ device_in ledger.old }
+    ensures goes { GoesOn D.bytes D.may_leave ledger.old ledger.new }
 {
     if !id_ok(id) {
         return Err(Refusal::Id);
@@ -130,11 +122,8 @@ pub fn delete_where<D: Directory + Shelf>(
     ensures answers { (session : ℕ) → AnswersSaid D.bytes session (Said.delete_where text.now) ledger.old (reply_of result) ledger.new }
     ensures due { (place : ℕ) → Fault (shape_in ledger.old).schema text.now place → result ≡ Err (NoQuery place) }
     ensures err { OnErr result (ledger.new ≡ ledger.old) }
-    ensures crash { Spares D.may_leave ledger.old ledger.new }
-    ensures can { D.can_fail (device_in ledger.new) → D.can_fail (device_in ledger.old) }
-    ensures rises { D.fault_count (device_in ledger.old) ≤ D.fault_count (device_in ledger.new) }
-    ensures history { Goes D.bytes D.may_leave Event.Other ledger.old ledger.new }
-    ensures policy { policy_in ledger.new ≡ policy_in ledger.old }
+    ensures same { device_in ledger.new ≡ device_in ledger.old }
+    ensures goes { GoesOn D.bytes D.may_leave ledger.old ledger.new }
 {
     let query = match read_query(alloc, ledger, text) {
         Ok(query) => query,

@@ -8,8 +8,8 @@ ghost use Rattle.cat_model.specs.State.{has_hold};
 ghost use Rattle.cat_ledger_laws.specs.lines.HoldLaws.{letting_go};
 ghost use Rattle.cat_ledger_laws.specs.lines.LineLaws.{tells};
 ghost use Rattle.cat_ledger.specs.Answering.{AnswersSaid};
-ghost use Rattle.cat_ledger.specs.Histories.{Event, Goes};
-ghost use Rattle.cat_ledger.specs.Ledgers.{device_in, policy_in, shape_in};
+ghost use Rattle.cat_ledger.specs.Histories.{GoesOn};
+ghost use Rattle.cat_ledger.specs.Ledgers.{device_in, shape_in};
 ghost use Rattle.cat_protocol.specs.replies.Reply.{reply_of};
 
 use cat_base::{Refusal, SessionNo, Token};
@@ -33,8 +33,7 @@ pub fn close<D: Directory + Shelf>(
     ensures held { OnOk result (shape_in ledger.new ≡ letting_go session token (shape_in ledger.old)) }
     ensures err { OnErr result (ledger.new ≡ ledger.old) }
     ensures same { device_in ledger.new ≡ device_in ledger.old }
-    ensures history { Goes D.bytes D.may_leave Event.Other ledger.old ledger.new }
-    ensures policy { policy_in ledger.new ≡ policy_in ledger.old }
+    ensures goes { GoesOn D.bytes D.may_leave ledger.old ledger.new }
 {
     if !ledger.let_go(session, token) {
         return Err(Refusal::NotHeld);

@@ -8,8 +8,8 @@ ghost use Rattle.cat_model.specs.State.{has_hold};
 ghost use Rattle.cat_ledger_laws.specs.lines.HoldLaws.{holding};
 ghost use Rattle.cat_ledger.specs.Answering.{AnswersSaid};
 ghost use Rattle.cat_ledger.specs.Grants.{IsAsked};
-ghost use Rattle.cat_ledger.specs.Histories.{Event, Goes};
-ghost use Rattle.cat_ledger.specs.Ledgers.{device_in, policy_in, shape_in};
+ghost use Rattle.cat_ledger.specs.Histories.{GoesOn};
+ghost use Rattle.cat_ledger.specs.Ledgers.{device_in, shape_in};
 ghost use Rattle.cat_protocol.specs.replies.Reply.{answer_of, reply_of};
 ghost use Rattle.cat_commands.specs.views.Holding.{said_open};
 
@@ -37,8 +37,7 @@ pub fn open<D: Directory + Shelf>(
         × (has_hold (shape_in ledger.old).holds session t ≡ false)) }
     ensures err { OnErr result (ledger.new ≡ ledger.old) }
     ensures same { device_in ledger.new ≡ device_in ledger.old }
-    ensures history { Goes D.bytes D.may_leave Event.Other ledger.old ledger.new }
-    ensures policy { policy_in ledger.new ≡ policy_in ledger.old }
+    ensures goes { GoesOn D.bytes D.may_leave ledger.old ledger.new }
 {
     match ledger.hold(session, token) {
         Ok(token) => Ok(Answer::Number(token)),

@@ -1,8 +1,8 @@
 //! The command that reads a stored item under a right to a view.
 //!
 //! Lucene's `StoredFields.document`, over a reader that `SearcherLifetimeManager.acquire` gave.
-ghost use Rattle.cat_directory.specs.Devices.{CountsOne};
-ghost use Rattle.std.specs.Prelude.{◌≡◌, ◌⊎◌, ℕ, Err, IfErr, IfOk, List, Ok, Option, false, true, ◌≤◌};
+ghost use Rattle.cat_directory.specs.Frames.{CountsFailures, OnlyReads};
+ghost use Rattle.std.specs.Prelude.{◌≡◌, ◌⊎◌, ℕ, Err, IfErr, IfOk, List, Ok, Option, false, true};
 ghost use Rattle.cat_base.specs.declared.refusal.Refusal.TheVariants.{Damaged, Device, Memory, NotHeld};
 ghost use Rattle.cat_model.specs.Answer.{Found, HasNoLineFeed};
 ghost use Rattle.cat_model.specs.Heard.{id_of};
@@ -11,12 +11,11 @@ ghost use Rattle.cat_model.specs.Run as run;
 ghost use Rattle.cat_model.specs.State.{has_hold};
 ghost use Rattle.cat_model.specs.Text.{Text};
 ghost use Rattle.cat_model.specs.View.{View};
-ghost use Rattle.cat_directory.specs.declared.name.FileName.{FileName};
 ghost use Rattle.cat_cached_sets.specs.cat_views.Sources.{HoldsSource, MayReachSource, TellsSource};
 ghost use Rattle.cat_ledger_laws.specs.lines.ReadLaws.{IsRecordedAs};
 ghost use Rattle.cat_ledger.specs.Answering.{AnswersSaid};
-ghost use Rattle.cat_ledger.specs.Histories.{Event, Goes};
-ghost use Rattle.cat_ledger.specs.Ledgers.{device_in, policy_in, shape_in};
+ghost use Rattle.cat_ledger.specs.Histories.{GoesOn};
+ghost use Rattle.cat_ledger.specs.Ledgers.{device_in, shape_in};
 ghost use Rattle.cat_protocol.specs.replies.Reply.{answer_of, reply_of};
 
 use cat_base::{Refusal, SessionNo, Token};
@@ -44,19 +43,14 @@ pub fn get<D: Directory + Shelf>(
     ensures refusal { id_of id.now ≡ Ok id.now → has_hold (shape_in ledger.old).holds session token ≡ true
         → IfErr result (λ e. (e ≡ Memory) ⊎ (e ≡ Device) ⊎ (e ≡ Damaged)) }
     ensures one_line { IfOk result (λ a. (source : Option Text) × (answer_of a ≡ run.Answer.found (Found.source source)) × HasNoLineFeed source) }
-    ensures counted { IfErr result (λ e. e ≡ Device → CountsOne (D.fault_count (device_in ledger.old)) (D.fault_count (device_in ledger.new))) }
-    ensures quiet { IfErr result (λ e. e ≡ Memory → D.fault_count (device_in ledger.new) ≡ D.fault_count (device_in ledger.old)) }
+    ensures fails { CountsFailures D.can_fail D.fault_count (device_in ledger.old) (device_in ledger.new) result }
     ensures damaged { IfErr result (λ e. e ≡ Damaged → (view : View) → IsRecordedAs (shape_in ledger.old).views token view
         → (files : ℕ → List ℕ) → TellsSource (D.bytes (device_in ledger.old)) files view id.now → HoldsSource files view id.now → ⊥) }
     ensures reach { IfErr result (λ e. e ≡ Memory → (view : View) → IsRecordedAs (shape_in ledger.old).views token view
         → MayReachSource (D.bytes (device_in ledger.old)) view id.now) }
-    ensures device { IfErr result (λ e. e ≡ Device → D.can_fail (device_in ledger.old)) }
     ensures shape { shape_in ledger.new ≡ shape_in ledger.old }
-    ensures same { (q : FileName) → D.bytes (device_in ledger.new) q ≡ D.bytes (device_in ledger.old) q }
-    ensures can { D.can_fail (device_in ledger.new) → D.can_fail (device_in ledger.old) }
-    ensures rises { D.fault_count (device_in ledger.old) ≤ D.fault_count (device_in ledger.new) }
-    ensures history { Goes D.bytes D.may_leave Event.Other ledger.old ledger.new }
-    ensures policy { policy_in ledger.new ≡ policy_in ledger.old }
+    ensures frame { OnlyReads D.bytes D.may_leave D.can_fail (device_in ledger.old) (device_in ledger.new) }
+    ensures goes { GoesOn D.bytes D.may_leave ledger.old ledger.new }
 {
     if !id_ok(id) {
         return Err(Refusal::Id);

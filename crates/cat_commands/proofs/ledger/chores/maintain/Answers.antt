@@ -1,6 +1,6 @@
 use Rattle.std.proofs.Common.{ap, refl, sym, ◌∙◌}
-use Rattle.std.specs.Prelude.{◌≢◌}
-use Rattle.cat_base.specs.declared.refusal.Refusal.TheVariants.{Damaged, Line as NoForm}
+use Rattle.std.specs.Prelude.{◌≡◌, ◌≢◌, Err}
+use Rattle.cat_base.specs.declared.refusal.Refusal.TheVariants.{Damaged, Device, Line as NoForm, Memory}
 use Rattle.cat_model.specs.Run.{Chore, Command}
 use Rattle.cat_ledger.specs.Ledgers.{device_in, policy_in, shape_in}
 use Rattle.cat_ledger_laws.proofs.lines.RefusalAnswers.{foreign_chores_answer}
@@ -9,12 +9,16 @@ use Rattle.cat_commands.specs.declared.ledger.chores.Chore.TheVariants.{Force, M
 use Rattle.cat_commands.specs.ledger.Chores.{chore_of}
 use Rattle.cat_commands.proofs.ledger.Answered.{at_zero}
 use Rattle.cat_commands.proofs.ledger.Kept.{behind_force, behind_none, behind_same, behind_so, reach_any, reach_so}
-use Rattle.cat_commands.proofs.ledger.Swept.{quiet_same}
-use Rattle.cat_ledger.proofs.Histories.{nothing_goes}
+use Rattle.cat_ledger.proofs.Failures.{memory_is_none, none_fails}
+use Rattle.cat_ledger.proofs.Results.{if_err}
+use Rattle.cat_ledger.proofs.Histories.{nothing_goes_on}
 use Rattle.cat_commands.proofs.ledger.chores.maintain.Goals as goal
 
 formless_differs : NoForm ≢ Damaged
 formless_differs = λ h. cc h
+
+formless_is_none : NoForm ≢ Device
+formless_is_none = λ h. cc h
 
 force_is_none : Force ≢ Merge
 force_is_none = λ h. cc h
@@ -82,11 +86,11 @@ returns-in-Stat-clause-answers g c =
           c.tell_stat.ensures.answers,
     )
 
-pub returns-then-session-ne0-clause-history : goal.returns-then-session-ne0-clause-history
-returns-then-session-ne0-clause-history g c = nothing_goes g.D.Holder.bytes g.D.Holder.may_leave c.args.ledger.now
+pub returns-then-session-ne0-clause-goes : goal.returns-then-session-ne0-clause-goes
+returns-then-session-ne0-clause-goes g c = nothing_goes_on g.D.Holder.bytes g.D.Holder.may_leave c.args.ledger.now
 
-pub returns-in-Stat-clause-history : goal.returns-in-Stat-clause-history
-returns-in-Stat-clause-history g c = nothing_goes g.D.Holder.bytes g.D.Holder.may_leave c.args.ledger.now
+pub returns-in-Stat-clause-goes : goal.returns-in-Stat-clause-goes
+returns-in-Stat-clause-goes g c = nothing_goes_on g.D.Holder.bytes g.D.Holder.may_leave c.args.ledger.now
 
 pub returns-then-session-ne0-clause-keeps : goal.returns-then-session-ne0-clause-keeps
 returns-then-session-ne0-clause-keeps g c = behind_same c.args.chore (shape_in c.args.ledger.now)
@@ -145,17 +149,31 @@ returns-in-Sweep-clause-files g c = λ zero sweeps. c.sweep.ensures.files
 pub returns-in-Sweep-clause-swept : goal.returns-in-Sweep-clause-swept
 returns-in-Sweep-clause-swept g c = λ sweeps. c.sweep.ensures.swept
 
-pub returns-in-Sweep-clause-quiet : goal.returns-in-Sweep-clause-quiet
-returns-in-Sweep-clause-quiet g c = c.sweep.ensures.quiet
+pub returns-in-Sweep-clause-fails : goal.returns-in-Sweep-clause-fails
+returns-in-Sweep-clause-fails g c = c.sweep.ensures.fails
 
-pub returns-in-Merge-clause-quiet : goal.returns-in-Merge-clause-quiet
-returns-in-Merge-clause-quiet g c = c.merge.ensures.quiet
+pub returns-in-Sweep-clause-goes : goal.returns-in-Sweep-clause-goes
+returns-in-Sweep-clause-goes g c = c.sweep.ensures.goes
 
-pub returns-in-Force-clause-quiet : goal.returns-in-Force-clause-quiet
-returns-in-Force-clause-quiet g c = c.force.ensures.quiet
+pub returns-in-Merge-clause-fails : goal.returns-in-Merge-clause-fails
+returns-in-Merge-clause-fails g c = c.merge.ensures.fails
 
-pub returns-in-Stat-clause-quiet : goal.returns-in-Stat-clause-quiet
-returns-in-Stat-clause-quiet g c = quiet_same (g.D.Holder.fault_count (device_in c.args.ledger.now)) c.tell_stat.result
+pub returns-in-Merge-clause-goes : goal.returns-in-Merge-clause-goes
+returns-in-Merge-clause-goes g c = c.merge.ensures.goes
+
+pub returns-in-Force-clause-fails : goal.returns-in-Force-clause-fails
+returns-in-Force-clause-fails g c = c.force.ensures.fails
+
+pub returns-in-Force-clause-goes : goal.returns-in-Force-clause-goes
+returns-in-Force-clause-goes g c = c.force.ensures.goes
+
+pub returns-then-session-ne0-clause-fails : goal.returns-then-session-ne0-clause-fails
+returns-then-session-ne0-clause-fails g c = none_fails (device_in c.args.ledger.now) (Err NoForm) formless_is_none
+
+pub returns-in-Stat-clause-fails : goal.returns-in-Stat-clause-fails
+returns-in-Stat-clause-fails g c =
+    none_fails (device_in c.args.ledger.now) c.tell_stat.result
+    (if_err (λ e. e ≡ Memory) (λ e. e ≡ Device → ⊥) c.tell_stat.result (λ e memory is. memory_is_none (sym memory ∙ is)) c.tell_stat.ensures.refusal)
 
 pub returns-in-Merge-clause-files : goal.returns-in-Merge-clause-files
 returns-in-Merge-clause-files g c = λ zero sweeps. absurd (merge_differs (sym c.in-Merge.is ∙ sweeps))

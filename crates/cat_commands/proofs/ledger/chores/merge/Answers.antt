@@ -10,8 +10,11 @@ returns-clause-sets g c =
     c.keep_among.ensures.value
     ∙ ap (λ (ls : List Leaf). filters_without (λ n. not (list_any (λ l. l.segment.number == n) ls)) c.args.filters.now) c.leaves.ensures
 
-pub returns-clause-quiet : goal.returns-clause-quiet
-returns-clause-quiet g c = c.merge_step-answer.ensures.quiet
+pub returns-clause-fails : goal.returns-clause-fails
+returns-clause-fails g c = c.merge_step-answer.ensures.fails
+
+pub returns-clause-goes : goal.returns-clause-goes
+returns-clause-goes g c = c.merge_step-answer.ensures.goes
 
 pub returns-clause-lacks : goal.returns-clause-lacks
 returns-clause-lacks g c = c.merge_step-answer.ensures.lacks

@@ -1,6 +1,7 @@
 use Rattle.cat_model.specs.Run.{Chore, News}
 use Rattle.cat_ledger.specs.Ledgers.{device_in, policy_in, shape_in}
 use Rattle.cat_ledger_laws.proofs.lines.StopAnswers.{chores_answer, sweeps_tell}
+use Rattle.cat_ledger.proofs.Failures.{fails_as}
 use Rattle.cat_commands.proofs.ledger.Answered.{sweep_refused}
 use Rattle.cat_commands.proofs.ledger.Swept.{swept_so}
 use Rattle.cat_commands.proofs.ledger.chores.sweep.Goals as goal
@@ -31,5 +32,8 @@ pub returns-in-Ok-clause-swept : goal.returns-in-Ok-clause-swept
 returns-in-Ok-clause-swept g c = λ carried.
     swept_so g.D.Holder.bytes g.D.Holder.may_leave c.args.ledger.now c.sweep.new.self c.in-Ok.ensures.ok c.in-Ok.ensures.files c.in-Ok.ensures.none c.in-Ok.ensures.done carried
 
-pub returns-in-Err-clause-quiet : goal.returns-in-Err-clause-quiet
-returns-in-Err-clause-quiet g c = c.in-Err.ensures.quiet
+pub returns-in-Ok-clause-fails : goal.returns-in-Ok-clause-fails
+returns-in-Ok-clause-fails g c = fails_as _ _ (λ P no. no) c.in-Ok.ensures.fails
+
+pub returns-in-Err-clause-fails : goal.returns-in-Err-clause-fails
+returns-in-Err-clause-fails g c = fails_as _ _ (λ P no. no) c.in-Err.ensures.fails

@@ -5,6 +5,7 @@ use Rattle.cat_model.specs.Heard.{commit_text_of}
 use Rattle.cat_model.specs.Run.{Command}
 use Rattle.cat_ledger.specs.Ledgers.{device_in, policy_in, shape_in}
 use Rattle.cat_ledger_laws.proofs.lines.LineAnswers.{commits_answer}
+use Rattle.cat_ledger.proofs.Failures.{fails_as}
 use Rattle.cat_commands.proofs.ledger.Answered.{at_error, commit_refused, err_is, tells_same}
 use Rattle.cat_commands.proofs.ledger.Kept.{unchanged}
 use Rattle.cat_commands.proofs.ledger.committing.commit.Goals as goal
@@ -37,8 +38,11 @@ returns-in-Err-clause-answers g c = λ session.
           c.in-Err.ensures.refusal c.in-Err.ensures.err,
     )
 
-pub returns-in-Err-clause-quiet : goal.returns-in-Err-clause-quiet
-returns-in-Err-clause-quiet g c = c.in-Err.ensures.memory
+pub returns-in-Ok-clause-fails : goal.returns-in-Ok-clause-fails
+returns-in-Ok-clause-fails g c = fails_as _ _ (λ P no. no) c.in-Ok.ensures.fails
+
+pub returns-in-Err-clause-fails : goal.returns-in-Err-clause-fails
+returns-in-Err-clause-fails g c = fails_as _ _ (λ P no. no) c.in-Err.ensures.fails
 
 pub returns-in-Err-clause-due : goal.returns-in-Err-clause-due
 returns-in-Err-clause-due g c = λ is. (c.in-Err.ensures.due is).2

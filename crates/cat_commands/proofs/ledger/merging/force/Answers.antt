@@ -6,6 +6,7 @@ use Rattle.cat_ledger.specs.Ledgers.{device_in, policy_in, shape_in}
 use Rattle.cat_ledger_laws.specs.lines.LineLaws.{line_of}
 use Rattle.cat_ledger_laws.specs.lines.RunLaws.{AnswersCarried}
 use Rattle.cat_ledger_laws.proofs.lines.StopAnswers.{chores_answer}
+use Rattle.cat_ledger.proofs.Failures.{fails_as}
 use Rattle.cat_commands.proofs.ledger.Answered.{force_refused}
 use Rattle.cat_commands.proofs.ledger.merging.force.Goals as goal
 
@@ -26,5 +27,8 @@ returns-in-Err-clause-answers g c =
     force_refused (policy_in old) (g.D.Holder.bytes (device_in old)) (g.D.Holder.bytes (device_in new)) (shape_in old) (shape_in new)
     c.in-Err.refusal c.in-Err.ensures.err c.in-Err.ensures.refusal
 
-pub returns-in-Err-clause-quiet : goal.returns-in-Err-clause-quiet
-returns-in-Err-clause-quiet g c = c.in-Err.ensures.memory
+pub returns-in-Ok-clause-fails : goal.returns-in-Ok-clause-fails
+returns-in-Ok-clause-fails g c = fails_as _ _ (λ P no. no) c.in-Ok.ensures.fails
+
+pub returns-in-Err-clause-fails : goal.returns-in-Err-clause-fails
+returns-in-Err-clause-fails g c = fails_as _ _ (λ P no. no) c.in-Err.ensures.fails

@@ -4,6 +4,7 @@ use Rattle.cat_model.specs.Run.{Command}
 use Rattle.cat_ledger.specs.Ledgers.{device_in, policy_in, shape_in}
 use Rattle.cat_ledger_laws.specs.lines.LineLaws.{MayRefresh}
 use Rattle.cat_ledger_laws.proofs.lines.LineAnswers.{refreshes_answer}
+use Rattle.cat_ledger.proofs.Failures.{fails_as}
 use Rattle.cat_commands.proofs.ledger.Answered.{err_is, refresh_refused, tells_same}
 use Rattle.cat_commands.proofs.ledger.Kept.{unchanged}
 use Rattle.cat_commands.proofs.ledger.viewing.refresh.Goals as goal
@@ -37,5 +38,8 @@ pub returns-in-Err-clause-full : goal.returns-in-Err-clause-full
 returns-in-Err-clause-full g c = λ full.
     let at = c.in-Err.ensures.full full in (ap Err (err_is at.0), at.1)
 
-pub returns-in-Err-clause-quiet : goal.returns-in-Err-clause-quiet
-returns-in-Err-clause-quiet g c = c.in-Err.ensures.memory
+pub returns-in-Ok-clause-fails : goal.returns-in-Ok-clause-fails
+returns-in-Ok-clause-fails g c = fails_as _ _ (λ P no. no) c.in-Ok.ensures.fails
+
+pub returns-in-Err-clause-fails : goal.returns-in-Err-clause-fails
+returns-in-Err-clause-fails g c = fails_as _ _ (λ P no. no) c.in-Err.ensures.fails

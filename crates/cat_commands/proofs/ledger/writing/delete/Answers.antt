@@ -7,7 +7,7 @@ use Rattle.cat_ledger.specs.Ledgers.{device_in, policy_in, shape_in}
 use Rattle.cat_ledger_laws.proofs.lines.LineAnswers.{deletes_answer}
 use Rattle.cat_commands.proofs.ledger.Answered.{delete_refused, tells_same}
 use Rattle.cat_commands.proofs.ledger.Kept.{unchanged}
-use Rattle.cat_ledger.proofs.Histories.{nothing_goes}
+use Rattle.cat_ledger.proofs.Histories.{nothing_goes_on}
 use Rattle.cat_commands.proofs.ledger.writing.delete.Goals as goal
 
 pub returns-in-Ok-clause-answers : goal.returns-in-Ok-clause-answers
@@ -36,5 +36,5 @@ returns-in-Err-clause-answers g c = λ session.
           c.args.id.now c.in-Err.refusal c.in-Err.ensures.spent (unchanged g.D.Holder.bytes old new c.in-Err.ensures.err) c.in-Err.ensures.refusal,
     )
 
-pub returns-then-not-id_ok-clause-history : goal.returns-then-not-id_ok-clause-history
-returns-then-not-id_ok-clause-history g c = nothing_goes g.D.Holder.bytes g.D.Holder.may_leave c.args.ledger.now
+pub returns-then-not-id_ok-clause-goes : goal.returns-then-not-id_ok-clause-goes
+returns-then-not-id_ok-clause-goes g c = nothing_goes_on g.D.Holder.bytes g.D.Holder.may_leave c.args.ledger.now

@@ -10,7 +10,7 @@ use Rattle.cat_ledger.specs.Ledgers.{device_in, policy_in, shape_in}
 use Rattle.cat_ledger_laws.proofs.lines.LineAnswers.{query_deletes_answer}
 use Rattle.cat_commands.proofs.ledger.Answered.{query_delete_refused, query_unread, tells_same}
 use Rattle.cat_commands.proofs.ledger.Kept.{unchanged}
-use Rattle.cat_ledger.proofs.Histories.{nothing_goes}
+use Rattle.cat_ledger.proofs.Histories.{nothing_goes_on}
 use Rattle.cat_commands.proofs.ledger.writing.delete_where.Goals as goal
 
 pub returns-in-Err-clause-answers : goal.returns-in-Err-clause-answers
@@ -46,8 +46,8 @@ returns-clause-answers g c = λ session.
           (unchanged g.D.Holder.bytes old new c.in-Err-delete_where.ensures.err) c.in-Err-delete_where.ensures.refusal,
     )
 
-pub returns-in-Err-clause-history : goal.returns-in-Err-clause-history
-returns-in-Err-clause-history g c = nothing_goes g.D.Holder.bytes g.D.Holder.may_leave c.args.ledger.now
+pub returns-in-Err-clause-goes : goal.returns-in-Err-clause-goes
+returns-in-Err-clause-goes g c = nothing_goes_on g.D.Holder.bytes g.D.Holder.may_leave c.args.ledger.now
 
 pub returns-in-Err-clause-due : goal.returns-in-Err-clause-due
 returns-in-Err-clause-due g c = λ place fault.

@@ -1,5 +1,5 @@
 use Rattle.std.proofs.Common.{◌+◌, ap, refl, sym}
-use Rattle.std.specs.Prelude.{Ok}
+use Rattle.std.specs.Prelude.{Err, Ok}
 use Rattle.cat_base.specs.declared.refusal.Refusal.TheVariants.{Device, Spent}
 use Rattle.cat_model.specs.Run.{Command}
 use Rattle.cat_items.specs.Reading.{item_of}
@@ -8,7 +8,8 @@ use Rattle.cat_ledger_laws.proofs.lines.LineAnswers.{puts_answer}
 use Rattle.cat_commands.proofs.ledger.Answered.{err_is, failure_differs, limit_differs, not_memory, put_refused, put_unread, tells_same}
 use Rattle.cat_commands.proofs.ledger.ItemFaults.{is_of_text}
 use Rattle.cat_commands.proofs.ledger.Kept.{merge_same, unchanged}
-use Rattle.cat_ledger.proofs.Histories.{nothing_goes}
+use Rattle.cat_ledger.proofs.Failures.{fails_as, none_fails}
+use Rattle.cat_ledger.proofs.Histories.{nothing_goes_on}
 use Rattle.cat_commands.proofs.ledger.writing.put.Goals as goal
 
 pub returns-in-Err-clause-answers : goal.returns-in-Err-clause-answers
@@ -47,26 +48,22 @@ returns-in-Err-put-clause-answers g c = λ session.
           c.in-Err-put.ensures.err c.in-Err-put.ensures.refusal,
     )
 
-pub returns-in-Err-clause-device : goal.returns-in-Err-clause-device
-returns-in-Err-clause-device g c = λ is.
-    absurd ((is_of_text (shape_in c.args.ledger.now).schema c.args.text.now c.in-Err.refusal (c.in-Err.ensures.err (not_memory Device failure_differs is))).0 is)
+pub returns-in-Err-clause-fails : goal.returns-in-Err-clause-fails
+returns-in-Err-clause-fails g c = none_fails (device_in c.args.ledger.now) (Err c.in-Err.refusal) (λ is.
+    absurd ((is_of_text (shape_in c.args.ledger.now).schema c.args.text.now c.in-Err.refusal (c.in-Err.ensures.err (not_memory Device failure_differs is))).0 is))
+
+pub returns-in-Ok-put-clause-fails : goal.returns-in-Ok-put-clause-fails
+returns-in-Ok-put-clause-fails g c = fails_as _ _ (λ P no. no) c.in-Ok-put.ensures.fails
+
+pub returns-in-Err-put-clause-fails : goal.returns-in-Err-put-clause-fails
+returns-in-Err-put-clause-fails g c = fails_as _ _ (λ P no. no) c.in-Err-put.ensures.fails
 
 pub returns-in-Err-clause-spent : goal.returns-in-Err-clause-spent
 returns-in-Err-clause-spent g c = λ is.
     absurd ((is_of_text (shape_in c.args.ledger.now).schema c.args.text.now c.in-Err.refusal (c.in-Err.ensures.err (not_memory Spent limit_differs is))).1 is)
 
-pub returns-in-Err-clause-history : goal.returns-in-Err-clause-history
-returns-in-Err-clause-history g c = nothing_goes g.D.Holder.bytes g.D.Holder.may_leave c.args.ledger.now
-
-pub returns-in-Err-clause-counted : goal.returns-in-Err-clause-counted
-returns-in-Err-clause-counted g c = λ is.
-    absurd ((is_of_text (shape_in c.args.ledger.now).schema c.args.text.now c.in-Err.refusal (c.in-Err.ensures.err (not_memory Device failure_differs is))).0 is)
+pub returns-in-Err-clause-goes : goal.returns-in-Err-clause-goes
+returns-in-Err-clause-goes g c = nothing_goes_on g.D.Holder.bytes g.D.Holder.may_leave c.args.ledger.now
 
 pub returns-in-Err-clause-stays : goal.returns-in-Err-clause-stays
 returns-in-Err-clause-stays g c = merge_same (shape_in c.args.ledger.now)
-
-pub returns-in-Err-clause-quiet : goal.returns-in-Err-clause-quiet
-returns-in-Err-clause-quiet g c = λ memory. refl
-
-pub returns-in-Err-put-clause-quiet : goal.returns-in-Err-put-clause-quiet
-returns-in-Err-put-clause-quiet g c = c.in-Err-put.ensures.memory

@@ -11,8 +11,9 @@ use Rattle.cat_ledger.specs.Ledgers.{device_in, policy_in, shape_in}
 use Rattle.cat_ledger_laws.specs.lines.LineLaws.{NothingChanges}
 use Rattle.cat_ledger_laws.proofs.lines.ReadAnswers.{gets_answer}
 use Rattle.cat_commands.proofs.ledger.Answered.{err_is}
-use Rattle.cat_commands.proofs.views.Answered.{get_refused, get_unheld, option_map_twice, reading_refusal, source_counts, source_quiet, sources_told}
-use Rattle.cat_ledger.proofs.Histories.{nothing_goes}
+use Rattle.cat_commands.proofs.views.Answered.{get_refused, get_unheld, option_map_twice, reading_refusal, sources_told}
+use Rattle.cat_ledger.proofs.Failures.{fails_as}
+use Rattle.cat_ledger.proofs.Histories.{nothing_goes_on}
 use Rattle.cat_commands.proofs.views.reading.get.Goals as goal
 
 pub returns-in-Ok-clause-answers : goal.returns-in-Ok-clause-answers
@@ -32,7 +33,7 @@ returns-in-Ok-clause-answers g c =
             long = option_map_twice (λ b. b.items) (λ (text : Text). length text) c.in-Ok.found ∙ c.in-Ok.ensures.whole view is;
             read = λ sources all. c.in-Ok.ensures.ok view is sources (sources_told told sources view id all);
           })
-          (c.in-Ok.ensures.shape, c.in-Ok.ensures.same),
+          (c.in-Ok.ensures.shape, c.in-Ok.ensures.frame.same),
     )
 
 pub returns-in-Err-clause-answers : goal.returns-in-Err-clause-answers
@@ -45,7 +46,7 @@ returns-in-Err-clause-answers g c =
     let id = c.args.id.now in
     let e = c.in-Err.refusal in
     let right : id_of id ≡ Ok id = ap (λ b. cond b (Ok id) (Err Id)) (sym c.id_ok.ensures ∙ c.if-not-id_ok.false) in
-    let still : NothingChanges told s told' (shape_in new) = (c.in-Err.ensures.shape, c.in-Err.ensures.same) in (
+    let still : NothingChanges told s told' (shape_in new) = (c.in-Err.ensures.shape, c.in-Err.ensures.frame.same) in (
       Command.read c.args.token (Read.get (Ok id)),
       ap (λ r. Command.read c.args.token (Read.get r)) (sym right),
       elim (cases_Bool (has_hold s.holds c.args.session c.args.token)) [
@@ -66,17 +67,11 @@ returns-in-Err-clause-refusal g c = λ right held.
     reading_refusal (g.D.Holder.fault_count (device_in c.args.ledger.now)) (g.D.Holder.fault_count (device_in c.source.new.self)) c.in-Err.refusal
     (c.in-Err.ensures.counted held)
 
-pub returns-in-Err-clause-counted : goal.returns-in-Err-clause-counted
-returns-in-Err-clause-counted g c =
-    source_counts (g.D.Holder.fault_count (device_in c.args.ledger.now)) (g.D.Holder.fault_count (device_in c.source.new.self))
-    (has_hold (shape_in c.args.ledger.now).holds c.args.session c.args.token) c.in-Err.refusal (λ none. err_is (c.in-Err.ensures.unheld none).0)
-    c.in-Err.ensures.counted
+pub returns-in-Ok-clause-fails : goal.returns-in-Ok-clause-fails
+returns-in-Ok-clause-fails g c = fails_as _ _ (λ P no. no) c.in-Ok.ensures.fails
 
-pub returns-in-Err-clause-quiet : goal.returns-in-Err-clause-quiet
-returns-in-Err-clause-quiet g c =
-    source_quiet (g.D.Holder.fault_count (device_in c.args.ledger.now)) (g.D.Holder.fault_count (device_in c.source.new.self))
-    (has_hold (shape_in c.args.ledger.now).holds c.args.session c.args.token) c.in-Err.refusal (λ none. err_is (c.in-Err.ensures.unheld none).0)
-    c.in-Err.ensures.counted
+pub returns-in-Err-clause-fails : goal.returns-in-Err-clause-fails
+returns-in-Err-clause-fails g c = fails_as _ _ (λ P no. no) c.in-Err.ensures.fails
 
-pub returns-then-not-id_ok-clause-history : goal.returns-then-not-id_ok-clause-history
-returns-then-not-id_ok-clause-history g c = nothing_goes g.D.Holder.bytes g.D.Holder.may_leave c.args.ledger.now
+pub returns-then-not-id_ok-clause-goes : goal.returns-then-not-id_ok-clause-goes
+returns-then-not-id_ok-clause-goes g c = nothing_goes_on g.D.Holder.bytes g.D.Holder.may_leave c.args.ledger.now
