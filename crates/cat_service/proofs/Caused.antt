@@ -15,6 +15,7 @@ use Rattle.cat_model.specs.Run.{Answer, Chore, Command, Reply, may_refuse}
 use Rattle.cat_model.specs.Text.{Text}
 use Rattle.cat_model.specs.View.{View}
 use Rattle.cat_directory.specs.Devices.{CountsOne, FileContent}
+use Rattle.cat_directory.specs.Frames.{CountsFailures}
 use Rattle.cat_directory.specs.declared.name.FileName.{FileName}
 use Rattle.cat_commands.specs.views.Holding.{said_open}
 use Rattle.cat_commands.specs.ledger.Chores.{IsSwept, IsWarmTold, KeepsBehind, MayRefuse, MayRefuseForce, MayRefuseMerge, ReachesFor, TellsChore, chore_of}
@@ -65,12 +66,6 @@ kept_so : (A : Type 0) (P : Reply → Type 0) → ((a : Answer) → P (Ok a)) �
 kept_so A P ok err (Ok a) h = ok (answer_of a)
 kept_so A P ok err (Err e) h = err e h
 
--- what a refusal leaves as it was counted nothing
-pub quiet_kept : {D : Type 0} (faults : D → ℕ) (old left : LedgerOnDevice D) (result : Result code.Answer Refusal) → OnErr result (left ≡ old)
-    → reply_of result ≡ Err Memory → faults (device_in left) ≡ faults (device_in old)
-quiet_kept faults old left (Ok a) same is = absurd (let no : ◌≡◌ {A = Reply} (Ok (answer_of a)) (Err Memory) = is in cc)
-quiet_kept faults old left (Err e) same is = ap (λ l. faults (device_in l)) same
-
 module _ {D : Type 0} (bytes : D → ToldFiles) (can_fail : D → Type 0) (faults : D → ℕ) (old : LedgerOnDevice D) (f : Filters)
     (result : Result code.Answer Refusal) (left : LedgerOnDevice D) (f' : Filters) where
   abbrev world : Service D
@@ -90,6 +85,10 @@ module _ {D : Type 0} (bytes : D → ToldFiles) (can_fail : D → Type 0) (fault
   abbrev Rises : Type 0
   Rises = faults (device_in old) ≤ faults (device_in left)
 
+  -- how it fails, where it does
+  abbrev Fails : Type 0
+  Fails = CountsFailures can_fail faults (device_in old) (device_in left) result
+
   abbrev KeepsMaking : Type 0
   KeepsMaking = KeepsMerge (shape_in old) (shape_in left)
 
@@ -102,34 +101,32 @@ module _ {D : Type 0} (bytes : D → ToldFiles) (can_fail : D → Type 0) (fault
 
   pub put_caused : (text : Text)
       → IfErr result (λ e. e ≡ Spent → (last_number ≤ (shape_in old).count) ⊎ ((buffer_limit ≤ length (shape_in old).buffered) × MayNotFlush (shape_in old)))
-      → IfErr result (λ e. e ≡ Device → can_fail (device_in old)) → IfErr result (λ e. e ≡ Device → Counted) → IfErr result (λ e. e ≡ Memory → Quiet) → Rises
-      → OnErr result KeepsMaking → Causes (Said.put text)
-  put_caused text spent device counted quiet rises stays = record {
+      → Fails → OnErr result KeepsMaking → Causes (Said.put text)
+  put_caused text spent fails stays = record {
     spent = given_so (IsSpentTo (policy_in old) (shape_in old) (Some (Said.put text))) Spent result Spent spent refl;
-    device = given_so (can_fail (device_in old)) Device result Device device refl;
-    counted = given_so Counted Device result Device counted refl;
+    device = given_so (can_fail (device_in old)) Device result Device fails.device refl;
+    counted = given_so Counted Device result Device fails.counted refl;
     damaged = λ k. tt;
     reached = λ k. tt;
-    quiet = given_so Quiet Memory result Memory quiet refl;
+    quiet = given_so Quiet Memory result Memory fails.memory refl;
     told = tt;
     swept = tt;
-    rises = rises;
+    rises = fails.rises;
     stays = tt;
     keeps = kept_so KeepsMaking (Keeps (Said.put text)) (λ a. tt) (λ e kept. kept) result stays;
   }
 
-  pub refresh_caused : IfErr result (λ e. e ≡ Spent → MayNotFlush (shape_in old)) → IfErr result (λ e. e ≡ Device → can_fail (device_in old))
-      → IfErr result (λ e. e ≡ Device → Counted) → IfErr result (λ e. e ≡ Memory → Quiet) → Rises → OnErr result KeepsMaking → Causes Said.refresh
-  refresh_caused spent device counted quiet rises stays = record {
+  pub refresh_caused : IfErr result (λ e. e ≡ Spent → MayNotFlush (shape_in old)) → Fails → OnErr result KeepsMaking → Causes Said.refresh
+  refresh_caused spent fails stays = record {
     spent = given_so (MayNotFlush (shape_in old)) Spent result Spent spent refl;
-    device = given_so (can_fail (device_in old)) Device result Device device refl;
-    counted = given_so Counted Device result Device counted refl;
+    device = given_so (can_fail (device_in old)) Device result Device fails.device refl;
+    counted = given_so Counted Device result Device fails.counted refl;
     damaged = λ k. tt;
     reached = λ k. tt;
-    quiet = given_so Quiet Memory result Memory quiet refl;
+    quiet = given_so Quiet Memory result Memory fails.memory refl;
     told = tt;
     swept = tt;
-    rises = rises;
+    rises = fails.rises;
     stays = tt;
     keeps = kept_so KeepsMaking (Keeps Said.refresh) (λ a. tt) (λ e kept. kept) result stays;
   }
@@ -138,18 +135,17 @@ module _ {D : Type 0} (bytes : D → ToldFiles) (can_fail : D → Type 0) (fault
       → IfErr result (λ e. e ≡ Damaged → (view : View) → IsRecordedAs (shape_in old).views t view → (files : ℕ → List ℕ)
       → TellsSource (bytes (device_in old)) files view id → HoldsSource files view id → ⊥)
       → IfErr result (λ e. e ≡ Memory → (view : View) → IsRecordedAs (shape_in old).views t view → MayReachSource (bytes (device_in old)) view id)
-      → IfErr result (λ e. e ≡ Device → can_fail (device_in old)) → IfErr result (λ e. e ≡ Device → Counted) → IfErr result (λ e. e ≡ Memory → Quiet) → Rises
-      → Causes (Said.get t id)
-  get_caused t id damaged reach device counted quiet rises = record {
+      → Fails → Causes (Said.get t id)
+  get_caused t id damaged reach fails = record {
     spent = λ k. tt;
-    device = given_so (can_fail (device_in old)) Device result Device device refl;
-    counted = given_so Counted Device result Device counted refl;
+    device = given_so (can_fail (device_in old)) Device result Device fails.device refl;
+    counted = given_so Counted Device result Device fails.counted refl;
     damaged = given_so (IsDamagedTo (bytes (device_in old)) (shape_in old) (Some (Said.get t id))) Damaged result Damaged damaged refl;
     reached = given_so (MayReachTo (bytes (device_in old)) (shape_in old) (Some (Said.get t id))) Memory result Memory reach refl;
-    quiet = given_so Quiet Memory result Memory quiet refl;
+    quiet = given_so Quiet Memory result Memory fails.memory refl;
     told = tt;
     swept = tt;
-    rises = rises;
+    rises = fails.rises;
     stays = tt;
     keeps = tt;
   }
@@ -195,21 +191,19 @@ module _ {D : Type 0} (bytes : D → ToldFiles) (can_fail : D → Type 0) (fault
   pub commit_caused : (may : D → FileName → FileContent → Type 0) (text : Text)
       → IfErr (commit_text_of text) (λ e. (result ≡ Err e) × (left ≡ old))
       → (commit_text_of text ≡ Ok text → IfErr result (λ e. e ≡ Spent → (last_number < (shape_in old).next_generation) ⊎ MayNotFlush (shape_in old)))
-      → (commit_text_of text ≡ Ok text → IfErr result (λ e. e ≡ Device → can_fail (device_in old)))
-      → (commit_text_of text ≡ Ok text → IfErr result (λ e. e ≡ Device → Counted)) → IfErr result (λ e. e ≡ Memory → Quiet)
-      → GoesBy bytes may (Some (Said.commit text)) (reply_of result) old left → Rises → OnErr result KeepsMaking → Causes (Said.commit text)
-  commit_caused may text wrong spent device counted quiet goes rises stays = record {
+      → Fails → GoesBy bytes may (Some (Said.commit text)) (reply_of result) old left → OnErr result KeepsMaking → Causes (Said.commit text)
+  commit_caused may text wrong spent fails goes stays = record {
     spent = λ k.
         given_so ((last_number < (shape_in old).next_generation) ⊎ MayNotFlush (shape_in old)) Spent result Spent
         (spent (right_text (left ≡ old) text Spent (λ e. cc e) (λ e. cc e) wrong k)) refl k;
-    device = λ k. given_so (can_fail (device_in old)) Device result Device (device (right_text (left ≡ old) text Device (λ e. cc e) (λ e. cc e) wrong k)) refl k;
-    counted = λ k. given_so Counted Device result Device (counted (right_text (left ≡ old) text Device (λ e. cc e) (λ e. cc e) wrong k)) refl k;
+    device = given_so (can_fail (device_in old)) Device result Device fails.device refl;
+    counted = given_so Counted Device result Device fails.counted refl;
     damaged = λ k. tt;
     reached = λ k. tt;
-    quiet = given_so Quiet Memory result Memory quiet refl;
+    quiet = given_so Quiet Memory result Memory fails.memory refl;
     told = commit_told may text (reply_of result) left goes;
     swept = tt;
-    rises = rises;
+    rises = fails.rises;
     stays = if_wrong (left ≡ old) (commit_text_of text) wrong;
     keeps = kept_so KeepsMaking (Keeps (Said.commit text)) (λ a. tt) (λ e kept. kept) result stays;
   }
@@ -325,60 +319,58 @@ module _ {D : Type 0} (bytes : D → ToldFiles) (can_fail : D → Type 0) (fault
       refuses : (chore : code_chore.Chore) → (session ≡ 0 → IfErr result (MayRefuse (policy_in old) (shape_in old) chore))
           → (chore ≡ Merge → IfErr result (λ e. e ≡ Damaged → Lacks))
           → IfErr result (λ e. e ≡ Memory → ReachesFor chore (bytes (device_in old)) (shape_in old).merging)
-          → IfErr result (λ e. e ≡ Device → can_fail (device_in old)) → IfErr result (λ e. e ≡ Device → Counted)
-          → IfErr result (λ e. e ≡ Memory → Quiet)
-          → TellsSo (policy_in old) (shape_in old) f f' (Some (Said.chore (chore_of chore))) (reply_of result)
-          → (chore ≡ Sweep → IsCarried (bytes (device_in old)) (shape_in old) → IfOk result (λ a. IsSwept bytes old left)) → Rises
+          → Fails → TellsSo (policy_in old) (shape_in old) f f' (Some (Said.chore (chore_of chore))) (reply_of result)
+          → (chore ≡ Sweep → IsCarried (bytes (device_in old)) (shape_in old) → IfOk result (λ a. IsSwept bytes old left))
           → OnErr result (KeepsBehind chore (shape_in old) (shape_in left)) → Causes (Said.chore (chore_of chore))
-      refuses Merge may lacks reach device counted quiet told swept rises keeps = record {
+      refuses Merge may lacks reach fails told swept keeps = record {
         spent = λ k. (merge_may may Spent (λ e. cc e) k).spent refl;
-        device = given_so (can_fail (device_in old)) Device result Device device refl;
-        counted = given_so Counted Device result Device counted refl;
+        device = given_so (can_fail (device_in old)) Device result Device fails.device refl;
+        counted = given_so Counted Device result Device fails.counted refl;
         damaged = λ k. let lacking = given_so Lacks Damaged result Damaged (lacks refl) refl k in ((merge_may may Damaged (λ e. cc e) k).damaged refl, lacking.0, lacking.1);
         reached = given_so (MayCopy (bytes (device_in old)) (shape_in old).merging) Memory result Memory reach refl;
-        quiet = given_so Quiet Memory result Memory quiet refl;
+        quiet = given_so Quiet Memory result Memory fails.memory refl;
         told = told;
         swept = tt;
-        rises = rises;
+        rises = fails.rises;
         stays = tt;
         keeps = kept_so (KeepsBehind Merge (shape_in old) (shape_in left)) (Keeps (Said.chore Chore.merge)) (λ a. tt) (λ e kept. kept) result keeps;
       }
-      refuses Force may lacks reach device counted quiet told swept rises keeps = record {
+      refuses Force may lacks reach fails told swept keeps = record {
         spent = λ k. let m = force_may may Spent (λ e. cc e) k in (m.due, m.spent refl);
-        device = given_so (can_fail (device_in old)) Device result Device device refl;
-        counted = given_so Counted Device result Device counted refl;
+        device = given_so (can_fail (device_in old)) Device result Device fails.device refl;
+        counted = given_so Counted Device result Device fails.counted refl;
         damaged = λ k. tt;
         reached = λ k. tt;
-        quiet = given_so Quiet Memory result Memory quiet refl;
+        quiet = given_so Quiet Memory result Memory fails.memory refl;
         told = told;
         swept = tt;
-        rises = rises;
+        rises = fails.rises;
         stays = tt;
         keeps = kept_so (KeepsBehind Force (shape_in old) (shape_in left)) (Keeps (Said.chore Chore.force)) (λ a. tt) (λ e kept. kept) result keeps;
       }
-      refuses Sweep may lacks reach device counted quiet told swept rises keeps = record {
+      refuses Sweep may lacks reach fails told swept keeps = record {
         spent = λ k. tt;
-        device = given_so (can_fail (device_in old)) Device result Device device refl;
-        counted = given_so Counted Device result Device counted refl;
+        device = given_so (can_fail (device_in old)) Device result Device fails.device refl;
+        counted = given_so Counted Device result Device fails.counted refl;
         damaged = λ k. tt;
         reached = λ k. tt;
-        quiet = given_so Quiet Memory result Memory quiet refl;
+        quiet = given_so Quiet Memory result Memory fails.memory refl;
         told = told;
         swept = sweep_told result (swept refl carried);
-        rises = rises;
+        rises = fails.rises;
         stays = tt;
         keeps = tt;
       }
-      refuses Stat may lacks reach device counted quiet told swept rises keeps = record {
+      refuses Stat may lacks reach fails told swept keeps = record {
         spent = λ k. tt;
         device = λ k. tt;
         counted = λ k. tt;
         damaged = λ k. tt;
         reached = λ k. tt;
-        quiet = given_so Quiet Memory result Memory quiet refl;
+        quiet = given_so Quiet Memory result Memory fails.memory refl;
         told = told;
         swept = tt;
-        rises = rises;
+        rises = fails.rises;
         stays = tt;
         keeps = tt;
       }
@@ -386,12 +378,10 @@ module _ {D : Type 0} (bytes : D → ToldFiles) (can_fail : D → Type 0) (fault
       pub chore_caused : (chore : code_chore.Chore) → AnswersSaid bytes session (Said.chore (chore_of chore)) old (reply_of result) left
           → IfOk result (λ a. TellsChore (length f.cached) (shape_in old) chore (answer_of a)) → (session ≡ 0 → IfErr result (MayRefuse (policy_in old) (shape_in old) chore))
           → (chore ≡ Merge → IfErr result (λ e. e ≡ Damaged → Lacks)) → IfErr result (λ e. e ≡ Memory → ReachesFor chore (bytes (device_in old)) (shape_in old).merging)
-          → IfErr result (λ e. e ≡ Device → can_fail (device_in old)) → IfErr result (λ e. e ≡ Device → Counted)
-          → IfErr result (λ e. e ≡ Memory → Quiet)
-          → (chore ≡ Sweep → IsCarried (bytes (device_in old)) (shape_in old) → IfOk result (λ a. IsSwept bytes old left)) → Rises
+          → Fails → (chore ≡ Sweep → IsCarried (bytes (device_in old)) (shape_in old) → IfOk result (λ a. IsSwept bytes old left))
           → OnErr result (KeepsBehind chore (shape_in old) (shape_in left)) → Causes (Said.chore (chore_of chore))
-      chore_caused chore answers told may lacks reach device counted quiet swept rises keeps =
-          refuses chore may lacks reach device counted quiet (maintain_told chore result (λ k. (foreign k).0) answers told) swept rises keeps
+      chore_caused chore answers told may lacks reach fails swept keeps =
+          refuses chore may lacks reach fails (maintain_told chore result (λ k. (foreign k).0) answers told) swept keeps
 
 -- ---- of commands
 

@@ -7,6 +7,7 @@ pub mod Kept
 pub mod ReadAnswers
 pub mod Begun
 pub mod Hearing
+pub mod Portioned
 pub mod Moved
 pub mod Gets
 pub mod Lacking
@@ -21,3 +22,6 @@ pub mod Ran
 pub mod Histories
 pub mod Caused
 pub mod Cached
+pub mod CachedLists
+pub mod Caches
+pub mod Caching

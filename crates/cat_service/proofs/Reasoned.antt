@@ -1,7 +1,7 @@
 -- Each reply has its cause in how the world stands before its line.
 use Rattle.std.proofs.Common.{◌≡◌, ◌≢◌, ℕ, ◌+◌, ◌<◌, ◌≤◌, List, [], ◌∷◌, length, map, sum, Bool, true, false, true≢false, cond, refl, sym, ◌∙◌, ap, subst, arith, inl, inr}
 use Rattle.std.specs.Prelude.{◌⊎◌, Option, None, Some, Result, Ok, Err, IsTrue, option_map}
-use Rattle.std.proofs.lemmas.List.{length-map}
+use Rattle.std.proofs.lemmas.List.{length-append, length-map}
 use Rattle.cat_base.specs.declared.refusal.Refusal.{Refusal}
 use Rattle.cat_base.specs.declared.refusal.Refusal.TheVariants.{Damaged, Device, Id, Memory, Spent}
 use Rattle.cat_model.specs.Answer.{Found, Read}
@@ -24,21 +24,22 @@ use Rattle.cat_commands.specs.cat_cached_sets.filters.Filters.{Filters}
 use Rattle.cat_commands.specs.cat_ledger.Lasting.{AlwaysTells}
 use Rattle.cat_commands.specs.cat_ledger_state.Cores.{HasRowsLeft, MayNotFlush}
 use Rattle.cat_commands.specs.cat_ledger.upkeep.Due.{IsMergeDue}
-use Rattle.cat_commands.specs.ledger.Chores.{pending_in, segment_told}
+use Rattle.cat_commands.specs.ledger.Chores.{pending_in, segment_told, stat_in}
 use Rattle.cat_ledger_laws.specs.lines.PlanLaws.{TellsForce, TellsMerge, live_sets_in, sizes_in}
 use Rattle.cat_ledger_laws.specs.lines.RunLaws.{ReplyLike, IsShown, Stands}
-use Rattle.cat_ledger_laws.specs.model.Ledger.{Ledger, view_shown}
+use Rattle.cat_ledger_laws.specs.model.Ledger.{Ledger, table_of, view_shown}
 use Rattle.cat_ledger_laws.specs.model.Plans.{MayBeForced}
-use Rattle.cat_ledger_laws.specs.model.Portions.{Merging, leaf_of}
+use Rattle.cat_ledger_laws.specs.model.Portions.{ArePortions, Merging, records_of}
 use Rattle.cat_ledger_laws.specs.shape.Shapes.{MergingShape, Shape, merging_shape, recorded_view, shape_of as shape_of_ledger}
 use Rattle.cat_ledger_laws.specs.shape.Ties.{ToldFiles}
 use Rattle.cat_service.proofs.Gets.{damaged_get}
 use Rattle.cat_service.proofs.Lacking.{no_input_lacks}
-use Rattle.cat_service.proofs.Moved.{IsTakenBy, Moved, calls_move, writes_by}
+use Rattle.cat_service.proofs.Moved.{Moved, calls_move, commits, flushes, writes_by}
+use Rattle.cat_service.proofs.Portioned.{SegmentsGo, leaves_told, live_told, portions_told}
 use Rattle.cat_service.specs.Causes.{IsCountedTo, IsDamagedTo, IsSpentTo, SweepsSo, TakesNumbers, TellsSo}
 use Rattle.cat_service.specs.Lines.{IsCommandOf}
 use Rattle.cat_service.specs.Reasons.{IsCausedBy, progress_of, standing_of_service}
-use Rattle.cat_model.specs.Standings.{ForceTells, HasNoRoom, HasReason, IsDamagedFor, IsSpentFor, IsToForce, IsToldOf, IsToMerge, MergeTells, MovesOn, Progress, Standing, segment_rows}
+use Rattle.cat_model.specs.Standings.{Cache, CacheMoves, ForceTells, HasNoRoom, HasReason, IsDamagedFor, IsSpentFor, IsToForce, IsToldOf, IsToMerge, MergeTells, MovesOn, Progress, Standing, segment_rows}
 use Rattle.cat_service.specs.Worlds.{Service, device_of, policy_of, shape_of_service}
 
 -- ---- replies that are alike
@@ -104,12 +105,12 @@ some_passes : (m : Option MergingShape) → m ≢ None → (p : Progress) × (op
 some_passes None some = absurd (some refl)
 some_passes (Some m) some = (progress_of m, refl)
 
-module _ {D : Type 0} (bytes : D → ToldFiles) (can_fail : D → Type 0) (faults : D → ℕ) (old : Service D) (tried : List ℕ) where
+module _ {D : Type 0} (bytes : D → ToldFiles) (can_fail : D → Type 0) (faults : D → ℕ) (old : Service D) (tried : List ℕ) (cache : Cache) where
   abbrev s : Shape
   s = shape_of_service old
 
   abbrev st : Standing
-  st = standing_of_service faults tried old
+  st = standing_of_service faults cache tried old
 
   sizes : segment_rows st ≡ sizes_in s.leaves
   sizes = sizes_told s.leaves
@@ -255,58 +256,59 @@ module _ {D : Type 0} (bytes : D → ToldFiles) (can_fail : D → Type 0) (fault
   commit_told sets left said text (Ok (Answer.news n)) m = tt
   commit_told sets left said text (Err e) m = tt
 
-  chore_told : (sets left : Filters) (what : Chore) (r : Reply) → TellsSo (policy_of old) s sets left (Some (Said.chore what)) r → Told (Command.chore what) r
-  chore_told sets left Chore.merge (Ok (Answer.news n)) m = merge_told n m
-  chore_told sets left Chore.force (Ok (Answer.news n)) m = force_told n m
-  chore_told sets left Chore.warm (Ok (Answer.news n)) m = tt
-  chore_told sets left Chore.sweep (Ok (Answer.news n)) m = m
-  chore_told sets left Chore.stat (Ok (Answer.news n)) m = (length sets.cached, m)
-  chore_told sets left Chore.merge (Ok (Answer.number g)) m = tt
-  chore_told sets left Chore.force (Ok (Answer.number g)) m = tt
-  chore_told sets left Chore.warm (Ok (Answer.number g)) m = tt
-  chore_told sets left Chore.sweep (Ok (Answer.number g)) m = tt
-  chore_told sets left Chore.stat (Ok (Answer.number g)) m = tt
-  chore_told sets left Chore.merge (Ok (Answer.found f)) m = tt
-  chore_told sets left Chore.force (Ok (Answer.found f)) m = tt
-  chore_told sets left Chore.warm (Ok (Answer.found f)) m = tt
-  chore_told sets left Chore.sweep (Ok (Answer.found f)) m = tt
-  chore_told sets left Chore.stat (Ok (Answer.found f)) m = tt
-  chore_told sets left Chore.merge (Ok (Answer.names ns)) m = tt
-  chore_told sets left Chore.force (Ok (Answer.names ns)) m = tt
-  chore_told sets left Chore.warm (Ok (Answer.names ns)) m = tt
-  chore_told sets left Chore.sweep (Ok (Answer.names ns)) m = tt
-  chore_told sets left Chore.stat (Ok (Answer.names ns)) m = tt
-  chore_told sets left Chore.merge (Ok (Answer.commit_text t)) m = tt
-  chore_told sets left Chore.force (Ok (Answer.commit_text t)) m = tt
-  chore_told sets left Chore.warm (Ok (Answer.commit_text t)) m = tt
-  chore_told sets left Chore.sweep (Ok (Answer.commit_text t)) m = tt
-  chore_told sets left Chore.stat (Ok (Answer.commit_text t)) m = tt
-  chore_told sets left Chore.merge (Err e) m = tt
-  chore_told sets left Chore.force (Err e) m = tt
-  chore_told sets left Chore.warm (Err e) m = tt
-  chore_told sets left Chore.sweep (Err e) m = tt
-  chore_told sets left Chore.stat (Err e) m = tt
+  chore_told : (sets left : Filters) → length cache.sets ≡ length sets.cached → (what : Chore) (r : Reply) → TellsSo (policy_of old) s sets left (Some (Said.chore what)) r → Told (Command.chore what) r
+  chore_told sets left counts Chore.merge (Ok (Answer.news n)) m = merge_told n m
+  chore_told sets left counts Chore.force (Ok (Answer.news n)) m = force_told n m
+  chore_told sets left counts Chore.warm (Ok (Answer.news n)) m = tt
+  chore_told sets left counts Chore.sweep (Ok (Answer.news n)) m = m
+  chore_told sets left counts Chore.stat (Ok (Answer.news n)) m = m ∙ ap (λ k. News.state (stat_in k s)) (sym counts)
+  chore_told sets left counts Chore.merge (Ok (Answer.number g)) m = tt
+  chore_told sets left counts Chore.force (Ok (Answer.number g)) m = tt
+  chore_told sets left counts Chore.warm (Ok (Answer.number g)) m = tt
+  chore_told sets left counts Chore.sweep (Ok (Answer.number g)) m = tt
+  chore_told sets left counts Chore.stat (Ok (Answer.number g)) m = tt
+  chore_told sets left counts Chore.merge (Ok (Answer.found f)) m = tt
+  chore_told sets left counts Chore.force (Ok (Answer.found f)) m = tt
+  chore_told sets left counts Chore.warm (Ok (Answer.found f)) m = tt
+  chore_told sets left counts Chore.sweep (Ok (Answer.found f)) m = tt
+  chore_told sets left counts Chore.stat (Ok (Answer.found f)) m = tt
+  chore_told sets left counts Chore.merge (Ok (Answer.names ns)) m = tt
+  chore_told sets left counts Chore.force (Ok (Answer.names ns)) m = tt
+  chore_told sets left counts Chore.warm (Ok (Answer.names ns)) m = tt
+  chore_told sets left counts Chore.sweep (Ok (Answer.names ns)) m = tt
+  chore_told sets left counts Chore.stat (Ok (Answer.names ns)) m = tt
+  chore_told sets left counts Chore.merge (Ok (Answer.commit_text t)) m = tt
+  chore_told sets left counts Chore.force (Ok (Answer.commit_text t)) m = tt
+  chore_told sets left counts Chore.warm (Ok (Answer.commit_text t)) m = tt
+  chore_told sets left counts Chore.sweep (Ok (Answer.commit_text t)) m = tt
+  chore_told sets left counts Chore.stat (Ok (Answer.commit_text t)) m = tt
+  chore_told sets left counts Chore.merge (Err e) m = tt
+  chore_told sets left counts Chore.force (Err e) m = tt
+  chore_told sets left counts Chore.warm (Err e) m = tt
+  chore_told sets left counts Chore.sweep (Err e) m = tt
+  chore_told sets left counts Chore.stat (Err e) m = tt
 
-  told_for : (sets left : Filters) (schema : Schema) (said : Option Said) (c : Command) (r : Reply) → IsCommandOf schema said c → TellsSo (policy_of old) s sets left said r → Told c r
-  told_for sets left schema None c r is m = subst (λ k. Told k r) (sym is) tt
-  told_for sets left schema (Some (Said.commit text)) c r is m = subst (λ k. Told k r) (sym is) (commit_told sets left text (commit_text_of text) r m)
-  told_for sets left schema (Some (Said.chore what)) c r is m = subst (λ k. Told k r) (sym is) (chore_told sets left what r m)
-  told_for sets left schema (Some (Said.put text)) c r is m = subst (λ k. Told k r) (sym is) tt
-  told_for sets left schema (Some (Said.delete text)) c r is m = subst (λ k. Told k r) (sym is) tt
-  told_for sets left schema (Some (Said.delete_where text)) c r is m = subst (λ k. Told k r) (sym is.2) tt
-  told_for sets left schema (Some Said.refresh) c r is m = subst (λ k. Told k r) (sym is) tt
-  told_for sets left schema (Some Said.open_newest) c r is m = subst (λ k. Told k r) (sym is) tt
-  told_for sets left schema (Some (Said.open_at t)) c r is m = subst (λ k. Told k r) (sym is) tt
-  told_for sets left schema (Some (Said.close t)) c r is m = subst (λ k. Told k r) (sym is) tt
-  told_for sets left schema (Some (Said.find t n sort mark text)) c r is m = subst (λ k. Told k r) (sym is.2) tt
-  told_for sets left schema (Some (Said.facets t dim n text)) c r is m = subst (λ k. Told k r) (sym is.2) tt
-  told_for sets left schema (Some (Said.get t text)) c r is m = subst (λ k. Told k r) (sym is) tt
-  told_for sets left schema (Some (Said.files_of_token t)) c r is m = subst (λ k. Told k r) (sym is) tt
-  told_for sets left schema (Some (Said.files_of_commit g)) c r is m = subst (λ k. Told k r) (sym is) tt
-  told_for sets left schema (Some (Said.text_of_commit g)) c r is m = subst (λ k. Told k r) (sym is) tt
-  told_for sets left schema (Some Said.snapshot) c r is m = subst (λ k. Told k r) (sym is) tt
-  told_for sets left schema (Some (Said.release_snapshot g)) c r is m = subst (λ k. Told k r) (sym is) tt
-  told_for sets left schema (Some (Said.prune n)) c r is m = subst (λ k. Told k r) (sym is) tt
+  told_for : (sets left : Filters) → length cache.sets ≡ length sets.cached → (schema : Schema) (said : Option Said) (c : Command) (r : Reply)
+      → IsCommandOf schema said c → TellsSo (policy_of old) s sets left said r → Told c r
+  told_for sets left counts schema None c r is m = subst (λ k. Told k r) (sym is) tt
+  told_for sets left counts schema (Some (Said.commit text)) c r is m = subst (λ k. Told k r) (sym is) (commit_told sets left text (commit_text_of text) r m)
+  told_for sets left counts schema (Some (Said.chore what)) c r is m = subst (λ k. Told k r) (sym is) (chore_told sets left counts what r m)
+  told_for sets left counts schema (Some (Said.put text)) c r is m = subst (λ k. Told k r) (sym is) tt
+  told_for sets left counts schema (Some (Said.delete text)) c r is m = subst (λ k. Told k r) (sym is) tt
+  told_for sets left counts schema (Some (Said.delete_where text)) c r is m = subst (λ k. Told k r) (sym is.2) tt
+  told_for sets left counts schema (Some Said.refresh) c r is m = subst (λ k. Told k r) (sym is) tt
+  told_for sets left counts schema (Some Said.open_newest) c r is m = subst (λ k. Told k r) (sym is) tt
+  told_for sets left counts schema (Some (Said.open_at t)) c r is m = subst (λ k. Told k r) (sym is) tt
+  told_for sets left counts schema (Some (Said.close t)) c r is m = subst (λ k. Told k r) (sym is) tt
+  told_for sets left counts schema (Some (Said.find t n sort mark text)) c r is m = subst (λ k. Told k r) (sym is.2) tt
+  told_for sets left counts schema (Some (Said.facets t dim n text)) c r is m = subst (λ k. Told k r) (sym is.2) tt
+  told_for sets left counts schema (Some (Said.get t text)) c r is m = subst (λ k. Told k r) (sym is) tt
+  told_for sets left counts schema (Some (Said.files_of_token t)) c r is m = subst (λ k. Told k r) (sym is) tt
+  told_for sets left counts schema (Some (Said.files_of_commit g)) c r is m = subst (λ k. Told k r) (sym is) tt
+  told_for sets left counts schema (Some (Said.text_of_commit g)) c r is m = subst (λ k. Told k r) (sym is) tt
+  told_for sets left counts schema (Some Said.snapshot) c r is m = subst (λ k. Told k r) (sym is) tt
+  told_for sets left counts schema (Some (Said.release_snapshot g)) c r is m = subst (λ k. Told k r) (sym is) tt
+  told_for sets left counts schema (Some (Said.prune n)) c r is m = subst (λ k. Told k r) (sym is) tt
 
   -- of what is found nothing is said
   found_told : (c : Command) (f : Found) → Told c (Ok (Answer.found f))
@@ -379,7 +381,7 @@ module _ {D : Type 0} (bytes : D → ToldFiles) (can_fail : D → Type 0) (fault
 
 -- ---- from one line to the next
 
--- which source is told matters to no write and to no commit
+-- which source is told matters to no write
 sources_write : (c : Command) (f g : Found) → writes_by c (Ok (Answer.found f)) ≡ writes_by c (Ok (Answer.found g))
 sources_write Command.formless f g = refl
 sources_write (Command.put (Ok i)) f g = refl
@@ -402,37 +404,29 @@ sources_write (Command.files_of_commit n) f g = refl
 sources_write (Command.text_of_commit n) f g = refl
 sources_write (Command.chore what) f g = refl
 
-taken_by : (c : Command) (r : Reply) (text : Result Text Refusal) (a : Answer) (next new : ℕ) → c ≡ Command.commit text → r ≡ Ok a → IsTakenBy c r next new
-    → new ≡ next + 1
-taken_by c r text a next new commits ok h =
-    let k : IsTakenBy (Command.commit text) (Ok a) next new =
-    subst (λ x. IsTakenBy (Command.commit text) x next new) ok (subst (λ d. IsTakenBy d r next new) commits h) in k
-
-sources_take : (c : Command) (f g : Found) (next new : ℕ) → IsTakenBy c (Ok (Answer.found f)) next new → IsTakenBy c (Ok (Answer.found g)) next new
-sources_take (Command.commit text) f g next new h = h
-sources_take Command.formless f g next new h = tt
-sources_take (Command.put item) f g next new h = tt
-sources_take (Command.delete id) f g next new h = tt
-sources_take (Command.delete_where q) f g next new h = tt
-sources_take Command.refresh f g next new h = tt
-sources_take Command.open_newest f g next new h = tt
-sources_take (Command.open_at t) f g next new h = tt
-sources_take (Command.close t) f g next new h = tt
-sources_take (Command.read t asked) f g next new h = tt
-sources_take (Command.prune n) f g next new h = tt
-sources_take Command.snapshot f g next new h = tt
-sources_take (Command.release_snapshot n) f g next new h = tt
-sources_take (Command.files_of_token t) f g next new h = tt
-sources_take (Command.files_of_commit n) f g next new h = tt
-sources_take (Command.text_of_commit n) f g next new h = tt
-sources_take (Command.chore what) f g next new h = tt
+-- and to no segment
+sources_go : (a b : Text) (old new : List SegmentStat) (next waiting after : ℕ)
+    → SegmentsGo (Ok (Answer.found (Found.source (Some a)))) old next waiting new after
+    → SegmentsGo (Ok (Answer.found (Found.source (Some b)))) old next waiting new after
+sources_go a b old new next waiting after h = (
+  h.0,
+  h.1,
+  elim h.2 [
+    | inl same ↦ inl same
+    | inr more ↦ inr (elim more [
+      | inl one ↦ inl one
+      | inr k ↦ absurd (let no : ◌≡◌ {A = Reply} (Ok (Answer.found (Found.source (Some a)))) (Ok (Answer.news News.done)) = k.4 in cc)
+    ])
+  ],
+)
 
 -- so of all that a call makes of a ledger
 sources_move : (c : Command) (l new : Ledger) (a b : Text) → Moved c (Ok (Answer.found (Found.source (Some a)))) l new
     → Moved c (Ok (Answer.found (Found.source (Some b)))) l new
 sources_move c l new a b m = record {
-  taken = sources_take c (Found.source (Some a)) (Found.source (Some b)) l.next_generation new.next_generation m.taken;
-  segments = m.segments;
+  taken = λ x commit ok. m.taken (Answer.found (Found.source (Some a))) commit refl;
+  segments = sources_go a b (portions_told l.portions) (portions_told new.portions) l.next_segment (length l.buffered) new.next_segment m.segments;
+  flushed = λ x flush ok. m.flushed (Answer.found (Found.source (Some a))) flush refl;
   waits = subst (λ n. length new.buffered ≤ length l.buffered + n) (sources_write c (Found.source (Some a)) (Found.source (Some b))) m.waits;
   merges = λ none. elim (m.merges none) [
     | inl gone ↦ inl gone
@@ -447,6 +441,31 @@ merging_told schema (Some m) x e none =
 
 merging_gone : (schema : Schema) (m : Option Merging) (x : Option MergingShape) → merging_shape schema m ≡ x → m ≡ None → option_map progress_of x ≡ None
 merging_gone schema m x e none = sym (ap (option_map progress_of) e) ∙ ap (λ o. option_map progress_of (merging_shape schema o)) none
+
+-- the segments that a ledger stands for are told as memory has them
+shapes_told : (l : Ledger) (s : Shape) → shape_of_ledger l ≡ s → portions_told l.portions ≡ map segment_told s.leaves
+shapes_told l s is = sym (leaves_told l.schema l.portions) ∙ ap (λ (x : Shape). map segment_told x.leaves) is
+
+-- what waits and the live rows are the table
+items_told : (l : Ledger) (s : Shape) → shape_of_ledger l ≡ s → ArePortions l.portions
+    → length s.buffered + sum (map (λ (x : SegmentStat). x.live) (map segment_told s.leaves)) ≡ length (table_of l)
+items_told l s is whole =
+    let a = ap (λ (x : Shape). length x.buffered) is in
+    let b = ap (λ (xs : List SegmentStat). sum (map (λ (x : SegmentStat). x.live) xs)) (shapes_told l s is) in
+    let d = live_told l.portions whole.lengths in
+    let e = length-append (records_of l.portions) l.buffered in omega (arith, a, b, d, e)
+
+segments_over : (r : Reply) (old old' new new' : List SegmentStat) (next next' waiting waiting' after after' : ℕ) → old ≡ old' → new ≡ new' → next ≡ next'
+    → waiting ≡ waiting' → after ≡ after' → SegmentsGo r old next waiting new after → SegmentsGo r old' next' waiting' new' after'
+segments_over r old old' new new' next next' waiting waiting' after after' is made number many behind h =
+    subst (λ k. SegmentsGo r old' next' waiting' new' k) behind
+    (subst (λ k. SegmentsGo r old' next' k new' after) many
+    (subst (λ n. SegmentsGo r old' n waiting new' after) number
+    (subst (λ xs. SegmentsGo r old' next waiting xs after) made (subst (λ xs. SegmentsGo r xs next waiting new after) is h))))
+
+flushes_of : (c : Command) (text : Result Text Refusal) → (c ≡ Command.refresh) ⊎ (c ≡ Command.commit text) → flushes c ≡ true
+flushes_of c text (inl is) = ap flushes is
+flushes_of c text (inr is) = ap flushes is
 
 -- what a refused COMMIT tries: a generation that it takes
 abbrev pub Tries : {D : Type 0} → (tried after : List ℕ) → Service D → Service D → Command → Reply → Type 0
@@ -470,7 +489,7 @@ found_no_refusal : (c : Command) (f : Found) → refuses_commit c (Ok (Answer.fo
 found_no_refusal (Command.commit (Ok text)) f m = absurd (cc m)
 found_no_refusal _ f m = absurd (cc m)
 
-module _ {D : Type 0} (bytes : D → ToldFiles) (can_fail : D → Type 0) (faults : D → ℕ) (tried after : List ℕ) where
+module _ {D : Type 0} (bytes : D → ToldFiles) (can_fail : D → Type 0) (faults : D → ℕ) (tried after : List ℕ) (cache made : Cache) where
   -- what waited is gone behind a SWEEP, as it is told
   swept_for : (old new : Service D) (schema : Schema) (said : Option Said) (c : Command) (r : Reply) → IsCommandOf schema said c
       → SweepsSo bytes old.ledger new.ledger said r → Sweeps new c r
@@ -507,22 +526,20 @@ module _ {D : Type 0} (bytes : D → ToldFiles) (can_fail : D → Type 0) (fault
   -- what a call made of a ledger is made of the standing that memory has of it
   moves_on : (old new : Service D) (c : Command) (r : Reply) (l l' : Ledger) → shape_of_ledger l ≡ shape_of_service old → shape_of_ledger l' ≡ shape_of_service new
       → TakesNumbers (shape_of_service old) (shape_of_service new) → faults (device_of old) ≤ faults (device_of new) → Moved c r l l' → Sweeps new c r → Tries tried after old new c r
-      → MovesOn (standing_of_service faults tried old) c r (standing_of_service faults after new)
-  moves_on old new c r l l' is is' numbers rises m swept tries = record {
+      → CacheMoves (standing_of_service faults cache tried old) c r (standing_of_service faults made after new)
+      → MovesOn (standing_of_service faults cache tried old) c r (standing_of_service faults made after new)
+  moves_on old new c r l l' is is' numbers rises m swept tries cached = record {
     segment = numbers.segment;
     generation = numbers.generation;
-    taken = λ text a commits ok.
-        taken_by c r text a (shape_of_service old).next_generation (shape_of_service new).next_generation commits ok
-        (subst (λ n. IsTakenBy c r n (shape_of_service new).next_generation) (ap (λ (x : Shape). x.next_generation) is)
-        (subst (λ n. IsTakenBy c r l.next_generation n) (ap (λ (x : Shape). x.next_generation) is') m.taken));
+    taken = λ text a is_commit ok.
+        sym (ap (λ (x : Shape). x.next_generation) is') ∙ m.taken a (ap commits is_commit) ok ∙ ap (λ (x : Shape). x.next_generation + 1) is;
     segments =
-        (let a = ap (λ (x : Shape). length x.leaves) is in
-        let b = ap (λ (x : Shape). length x.leaves) is' in
-        let d = length-map l.portions (leaf_of l.schema) in
-        let e = length-map l'.portions (leaf_of l'.schema) in
-        let f = length-map (shape_of_service old).leaves segment_told in
-        let g = length-map (shape_of_service new).leaves segment_told in
-        let h = m.segments in omega (arith, a, b, d, e, f, g, h));
+        segments_over r (portions_told l.portions) (map segment_told (shape_of_service old).leaves) (portions_told l'.portions) (map segment_told (shape_of_service new).leaves)
+        l.next_segment (shape_of_service old).next_segment (length l.buffered) (length (shape_of_service old).buffered)
+        l'.next_segment (shape_of_service new).next_segment (shapes_told l (shape_of_service old) is)
+        (shapes_told l' (shape_of_service new) is') (ap (λ (x : Shape). x.next_segment) is) (ap (λ (x : Shape). length x.buffered) is)
+        (ap (λ (x : Shape). x.next_segment) is') m.segments;
+    flushed = λ text a which ok. sym (ap (λ (x : Shape). length x.buffered) is') ∙ m.flushed a (flushes_of c text which) ok;
     waits =
         (let a = ap (λ (x : Shape). length x.buffered) is in
         let b = ap (λ (x : Shape). length x.buffered) is' in
@@ -531,6 +548,7 @@ module _ {D : Type 0} (bytes : D → ToldFiles) (can_fail : D → Type 0) (fault
       | inl gone ↦ inl (merging_gone l'.schema l'.merging (shape_of_service new).merging (ap (λ (x : Shape). x.merging) is') gone)
       | inr begun ↦ inr begun
     ];
+    cache = cached;
     swept = swept;
     failures = rises;
     tried = tries;
@@ -546,29 +564,31 @@ module _ {D : Type 0} (bytes : D → ToldFiles) (can_fail : D → Type 0) (fault
   pub reasoned : (from : Opened) (past : Run) (old new : Service D) (e : Exchange) (fitting : Reply)
       → Stands (bytes (device_of old)) (shape_of_service old) from past → Fits from past (record { line = e.line; reply = fitting })
       → IsShown (bytes (device_of old)) e.reply fitting → IsCausedBy bytes can_fail faults old (Outcome.replied e) new
-      → Tries tried after old new e.line.command e.reply
-      → HasReason (AlwaysTells bytes) (policy_of old).factor (policy_of old).least from past (standing_of_service faults tried old)
-      (record { line = e.line; reply = fitting }) (standing_of_service faults after new)
-  reasoned from past old new e fitting stands fits shown (said, is, cause, numbers, answers, same) tries =
+      → Tries tried after old new e.line.command e.reply → length cache.sets ≡ length old.sets.cached
+      → CacheMoves (standing_of_service faults cache tried old) e.line.command fitting (standing_of_service faults made after new)
+      → HasReason (AlwaysTells bytes) (policy_of old).factor (policy_of old).least from past (standing_of_service faults cache tried old)
+      (record { line = e.line; reply = fitting }) (standing_of_service faults made after new)
+  reasoned from past old new e fitting stands fits shown (said, is, cause, numbers, answers, same, sets) tries counts cached =
       let c = e.line.command in
       let schema = (shape_of_service old).schema in
       let l = stands.ledger in
-      let made = answers l stands.files stands.carries in
-      let moved : Moved c made.2 l made.0 = calls_move (policy_of old) l made.0 e.line made.2 made.4 in
-      let told_moved : Moved c e.reply l made.0 =
-      (alike_on (λ r. Moved c r l made.0) (sources_move c l made.0) e.reply made.2 made.3.alike).1 moved in
-      let fit_moved : Moved c fitting l made.0 = (alike_on (λ r. Moved c r l made.0) (sources_move c l made.0) e.reply fitting shown.alike).0 told_moved in record {
-        spent = λ k. spent_for bytes can_fail faults old tried schema said c is (cause.spent (refused_alike Spent e.reply fitting shown.alike k));
+      let answered = answers l stands.files stands.carries in
+      let moved : Moved c answered.2 l answered.0 = calls_move (policy_of old) l answered.0 e.line answered.2 stands.carries.sound.merging answered.4 in
+      let told_moved : Moved c e.reply l answered.0 =
+      (alike_on (λ r. Moved c r l answered.0) (sources_move c l answered.0) e.reply answered.2 answered.3.alike).1 moved in
+      let fit_moved : Moved c fitting l answered.0 = (alike_on (λ r. Moved c r l answered.0) (sources_move c l answered.0) e.reply fitting shown.alike).0 told_moved in record {
+        spent = λ k. spent_for bytes can_fail faults old tried cache schema said c is (cause.spent (refused_alike Spent e.reply fitting shown.alike k));
         counted = λ k.
-            counted_for bytes can_fail faults old tried from past e.line.session schema said c is (subst (λ r. Fits from past (record { line = e.line; reply = r })) k fits)
+            counted_for bytes can_fail faults old tried cache from past e.line.session schema said c is (subst (λ r. Fits from past (record { line = e.line; reply = r })) k fits)
             (CountsOne (faults (device_of old)) (faults (device_of new))) (cause.counted (refused_alike Device e.reply fitting shown.alike k));
         quiet = λ k. cause.quiet (refused_alike Memory e.reply fitting shown.alike k);
         damaged = λ k.
-            damaged_for bytes can_fail faults old tried from past e.line.session schema said c is stands (subst (λ r. Fits from past (record { line = e.line; reply = r })) k fits)
+            damaged_for bytes can_fail faults old tried cache from past e.line.session schema said c is stands (subst (λ r. Fits from past (record { line = e.line; reply = r })) k fits)
             (cause.damaged (refused_alike Damaged e.reply fitting shown.alike k));
         told =
-            (alike_on (λ r. IsToldOf (policy_of old).factor (policy_of old).least (standing_of_service faults tried old) c r)
-            (λ a b h. found_told bytes can_fail faults old tried c (Found.source (Some b))) e.reply fitting shown.alike).0 (told_for bytes can_fail faults old tried old.sets new.sets schema said c e.reply is cause.told);
+            (alike_on (λ r. IsToldOf (policy_of old).factor (policy_of old).least (standing_of_service faults cache tried old) c r)
+            (λ a b h. found_told bytes can_fail faults old tried cache c (Found.source (Some b))) e.reply fitting shown.alike).0 (told_for bytes can_fail faults old tried cache old.sets new.sets counts schema said c e.reply is cause.told);
+        items = items_told l (shape_of_service old) stands.carries.shape stands.carries.sound.portions ∙ ap length stands.stands.shows.table_now;
         writes = ap (λ (x : Shape). x.count) (sym stands.carries.shape) ∙ stands.stands.shows.count_now;
         views =
             (let a = ap (λ (x : Shape). length x.views) stands.carries.shape in
@@ -577,8 +597,8 @@ module _ {D : Type 0} (bytes : D → ToldFiles) (can_fail : D → Type 0) (fault
             let f = ap (λ (vs : List RecordedTable). length vs) stands.stands.shows.views_now in
             let g = length-map (view_tokens from.start past) (table_recorded from.start past) in omega (arith, a, b, d, f, g));
         moves =
-            moves_on old new c fitting l made.0 stands.carries.shape made.5.shape numbers cause.rises fit_moved
+            moves_on old new c fitting l answered.0 stands.carries.shape answered.5.shape numbers cause.rises fit_moved
             ((alike_on (Sweeps new c) (λ a b h x sweeps ok. h (Answer.found (Found.source (Some a))) sweeps refl) e.reply fitting shown.alike).0
             (swept_for old new schema said c e.reply is cause.swept))
-            ((alike_on (Tries tried after old new c) (λ a b h. sources_try c old new a b h) e.reply fitting shown.alike).0 tries);
+            ((alike_on (Tries tried after old new c) (λ a b h. sources_try c old new a b h) e.reply fitting shown.alike).0 tries) cached;
       }

@@ -5,18 +5,18 @@ use Rattle.std.specs.Prelude.{◌⊎◌, ◌<◌, Contains, IsTrue, Option, None
 use Rattle.std.proofs.lemmas.Bool.{cases_lt}
 use Rattle.std.proofs.lemmas.Bool.Decides.{nat_tests}
 use Rattle.cat_base.specs.declared.refusal.Refusal.{Refusal}
-use Rattle.cat_base.specs.declared.refusal.Refusal.TheVariants.{Device, Line as NoForm}
+use Rattle.cat_base.specs.declared.refusal.Refusal.TheVariants.{Device, Line as NoForm, Memory}
 use Rattle.cat_model.specs.Heard.{Heard, Hears}
 use Rattle.cat_model.specs.Item.{Schema}
 use Rattle.cat_model.specs.Lines.{IsReadable, Said}
 use Rattle.cat_model.specs.Input.{ended_lines, lines_of}
 use Rattle.cat_model.specs.Answer.{Read}
-use Rattle.cat_model.specs.Run.{Chore, Command, Exchange, Fits, IsRun, Reply, Run, may_refuse, newest_commit, now}
+use Rattle.cat_model.specs.Run.{Chore, Command, EachBehind, Exchange, Fits, IsRun, Reply, Run, may_refuse, newest_commit, now}
 use Rattle.cat_model.specs.Served.{Answered, Begins, Ending, HeardAll, IsDue, Outcome, Refused, ServesBy, TellsFiles, exchange, heard, outcome_text, refused_text}
 use Rattle.cat_model.specs.Promised.{LeavesPromised, SurvivesCrash}
 use Rattle.cat_model.specs.Reasons.{CausesIn, CountsRefusal, HasTakenAll, IsCausedIn}
-use Rattle.cat_model.specs.Serving.{AreLike, FailsRightly, IsServedIn, RefusesFirst, ReplyLike, ServesIn, WantRightly}
-use Rattle.cat_model.specs.Standings.{HasReason, HaveReasons, IsDamagedFor, Standing}
+use Rattle.cat_model.specs.Serving.{AreLike, FailsRightly, IsServedIn, MayWantIn, RefusesFirst, ReplyLike, ServesIn}
+use Rattle.cat_model.specs.Standings.{Cache, HasReason, HaveReasons, IsDamagedFor, Standing}
 use Rattle.cat_model.specs.Table.{Opened}
 use Rattle.cat_model.specs.Told.{DirectoryKind, TellsAlways}
 use Rattle.cat_model.specs.Text.{Text}
@@ -44,6 +44,8 @@ use Rattle.cat_commands.specs.cat_protocol.declared.serving.machine.Stage.{Stage
 use Rattle.cat_commands.specs.cat_protocol.declared.serving.machine.Stage.TheVariants.{Open}
 use Rattle.cat_commands.specs.cat_protocol.declared.serving.machine.Unopened.{Unopened}
 use Rattle.cat_service.proofs.Begun.{formless_unasked}
+use Rattle.cat_service.proofs.Caches.{IsCacheOf, no_sets, sets_counted}
+use Rattle.cat_service.proofs.Caching.{cache_goes}
 use Rattle.cat_service.proofs.Reasoned.{reasoned}
 use Rattle.cat_service.proofs.Standing.{stands_first}
 use Rattle.cat_service.proofs.Opens.{begins_from}
@@ -121,6 +123,7 @@ reason_by one other f factor least from past s e new h = record {
   quiet = h.quiet;
   damaged = λ is. damaged_by one other f from past s e.line.command (h.damaged is);
   told = h.told;
+  items = h.items;
   writes = h.writes;
   views = h.views;
   moves = h.moves;
@@ -153,26 +156,29 @@ module _ {D : Type 0} (bytes : D → ToldFiles) (may_leave : D → FileName → 
   opening_if_short device line w false o = o
 
   -- the exchanges of the rest of a run have their causes, from how the one world stands to how the other does
-  abbrev pub Reasons : Opened → Run → List ℕ → Service D → Run → List ℕ → Service D → Type 0
-  Reasons from past tried old rest last new =
-      HaveReasons (TellsAlways kind) (policy_of old).factor (policy_of old).least from past (standing_of_service faults tried old) rest
-      (standing_of_service faults last new)
+  abbrev pub Reasons : Opened → Run → Cache → List ℕ → Service D → Run → Cache → List ℕ → Service D → Type 0
+  Reasons from past cache tried old rest last_cache last new =
+      HaveReasons (TellsAlways kind) (policy_of old).factor (policy_of old).least from past (standing_of_service faults cache tried old) rest
+      (standing_of_service faults last_cache last new)
 
-  -- what comes of lines behind a past run: what was told, what fits, what is promised of the device that is left, and what was tried
-  pub record Goes (fails : Type 0) (from : Opened) (past : Run) (tried : List ℕ) (old : Service D) (lines : List Text) (outcomes : List Outcome)
-      (new : Service D) : Type 0 where
+  -- what comes of lines behind a past run: what was told, what fits, what is promised of the device that is left, what was tried, and which
+  -- sets are cached
+  pub record Goes (fails : Type 0) (from : Opened) (past : Run) (cache : Cache) (tried : List ℕ) (old : Service D) (lines : List Text)
+      (outcomes : List Outcome) (new : Service D) : Type 0 where
     pub fitting : List Outcome
     pub heard_all : HeardAll json from.start.schema lines outcomes
     pub is_run : IsRun from (past ++ filter_map exchange fitting)
     pub alike : AreLike outcomes fitting
     pub same : TellsAlways kind → outcomes ≡ fitting
-    pub wanting : WantRightly from past (filter_map exchange fitting)
+    pub wanting : EachBehind (λ p x. x.reply ≡ Err Memory → MayWantIn from p x.line.session x.line.command) past (filter_map exchange fitting)
     pub files : AllByRecursion TellsFiles outcomes
     pub failing : AllByRecursion (FailsRightly fails) outcomes
     pub promised : LeavesPromised kind (device_of new) from (past ++ filter_map exchange fitting)
     pub newest : newest_generation (shape_of_service new).commits ≡ newest_commit from (past ++ filter_map exchange fitting)
+    pub last_cache : Cache
+    pub cached : IsCacheOf new.sets last_cache
     pub last : List ℕ
-    pub reasons : Reasons from past tried old (filter_map exchange fitting) last new
+    pub reasons : Reasons from past cache tried old (filter_map exchange fitting) last_cache last new
     pub calls : List (Call D)
     pub history : IsHistory bytes may_leave old.ledger calls new.ledger
     pub refused : (g : ℕ) → HasRefused (events_of calls) g ⊎ Contains tried g → Contains last g
@@ -190,10 +196,10 @@ module _ {D : Type 0} (bytes : D → ToldFiles) (may_leave : D → FileName → 
   }
 
   -- the lines that the machine steps through are heard, and their exchanges go on with the run so far
-  steps_go : (fails : Type 0) (from : Opened) (past : Run) (tried : List ℕ) (old new : Service D) (lines : List Text) (outcomes : List Outcome)
-      → WorldLasts bytes may_leave new → (can_fail (device_of old) → fails) → (shape_of_service old).schema ≡ from.start.schema → IsRun from past → Stands (bytes (device_of old)) (shape_of_service old) from past
-      → Steps (StepsCaused bytes may_leave can_fail faults) old (map short_line lines) outcomes new → Goes fails from past tried old lines outcomes new
-  steps_go fails from past tried old new [] [] lasts can fields run stands s = record {
+  steps_go : (fails : Type 0) (from : Opened) (past : Run) (cache : Cache) (tried : List ℕ) (old new : Service D) (lines : List Text)
+      (outcomes : List Outcome) → IsCacheOf old.sets cache → WorldLasts bytes may_leave new → (can_fail (device_of old) → fails) → (shape_of_service old).schema ≡ from.start.schema → IsRun from past → Stands (bytes (device_of old)) (shape_of_service old) from past
+      → Steps (StepsCaused bytes may_leave can_fail faults) old (map short_line lines) outcomes new → Goes fails from past cache tried old lines outcomes new
+  steps_go fails from past cache tried old new [] [] cached lasts can fields run stands s = record {
     fitting = [];
     heard_all = tt;
     is_run = subst (IsRun from) (sym (append-nil past)) run;
@@ -208,19 +214,21 @@ module _ {D : Type 0} (bytes : D → ToldFiles) (may_leave : D → FileName → 
         ap (λ w. newest_generation (shape_of_service w).commits) s
         ∙ newest_number (bytes (device_of old)) (shape_of_service old) from past stands
         ∙ ap (newest_commit from) (sym (append-nil past));
+    last_cache = cache;
+    cached = subst (λ (w : Service D). IsCacheOf w.sets cache) (sym s) cached;
     last = tried;
-    reasons = ap (standing_of_service faults tried) s;
+    reasons = ap (standing_of_service faults cache tried) s;
     calls = [];
     history = ap (λ (w : Service D). w.ledger) s;
     refused = λ g has. elim has [ inl none ↦ absurd none | inr there ↦ there ];
     unanswered = λ tells all. tt;
     was_tried = λ tells t was. absurd (none_tried t was);
   }
-  steps_go fails from past tried old new [] (told ∷ outcomes) lasts can fields run stands s = absurd s
-  steps_go fails from past tried old new (line ∷ lines) [] lasts can fields run stands s = absurd s
-  steps_go fails from past tried old new (line ∷ lines) (Outcome.unreadable ∷ outcomes) lasts can fields run stands (mid, step, steps) =
+  steps_go fails from past cache tried old new [] (told ∷ outcomes) cached lasts can fields run stands s = absurd s
+  steps_go fails from past cache tried old new (line ∷ lines) [] cached lasts can fields run stands s = absurd s
+  steps_go fails from past cache tried old new (line ∷ lines) (Outcome.unreadable ∷ outcomes) cached lasts can fields run stands (mid, step, steps) =
       let here = line_if_short old mid line Outcome.unreadable (nat_lt 10000 (length line)) refl step.0 in
-      let rest = steps_go fails from past tried mid new lines outcomes lasts (subst (λ w. can_fail (device_of w) → fails) (sym here.1) can) (ap (λ w. (shape_of_service w).schema) here.1 ∙ fields) run
+      let rest = steps_go fails from past cache tried mid new lines outcomes (subst (λ (w : Service D). IsCacheOf w.sets cache) (sym here.1) cached) lasts (subst (λ w. can_fail (device_of w) → fails) (sym here.1) can) (ap (λ w. (shape_of_service w).schema) here.1 ∙ fields) run
       (subst (λ w. Stands (bytes (device_of w)) (shape_of_service w) from past) (sym here.1) stands) steps in record {
         fitting = Outcome.unreadable ∷ rest.fitting;
         heard_all = (subst (λ schema. Hears json schema line Heard.unreadable) fields here.0, rest.heard_all);
@@ -232,24 +240,27 @@ module _ {D : Type 0} (bytes : D → ToldFiles) (may_leave : D → FileName → 
         failing = (tt, rest.failing);
         promised = rest.promised;
         newest = rest.newest;
+        last_cache = rest.last_cache;
+        cached = rest.cached;
         last = rest.last;
-        reasons = subst (λ w. Reasons from past tried w (filter_map exchange rest.fitting) rest.last new) here.1 rest.reasons;
+        reasons = subst (λ w. Reasons from past cache tried w (filter_map exchange rest.fitting) rest.last_cache rest.last new) here.1 rest.reasons;
         calls = rest.calls;
         history = subst (λ (w : Service D). IsHistory bytes may_leave w.ledger rest.calls new.ledger) here.1 rest.history;
         refused = rest.refused;
         unanswered = rest.unanswered;
         was_tried = rest.was_tried;
       }
-  steps_go fails from past tried old new (line ∷ lines) (Outcome.replied e ∷ outcomes) lasts can fields run stands (mid, step, steps) =
+  steps_go fails from past cache tried old new (line ∷ lines) (Outcome.replied e ∷ outcomes) cached lasts can fields run stands (mid, step, steps) =
       let here = line_if_short old mid line (Outcome.replied e) (nat_lt 10000 (length line)) refl step.0 in
       let next = here.1.2 from past (sym fields) run stands in
       let fit : Exchange = record { line = e.line; reply = next.0 } in
       let event : Event = here.1.4.0 in
       let after : List ℕ = tried_by event ++ tried in
       let call : Call D = record { event = event; after = mid.ledger } in
+      let caches = cache_goes bytes faults tried after from past old mid e next.0 step.1.0 cache cached stands next.2 next.1 step.1.1 step.1.6 step.1.2.told in
       let makes : TellsAlways kind → MakesEvent e.line.command next.0 event =
       λ tells. subst (λ r. MakesEvent e.line.command r event) (next.1.same (always_tells tells (device_of old))) here.1.4.1 in
-      let rest = steps_go fails from (past ++ fit ∷ []) after mid new lines outcomes lasts (λ k. can (here.1.6 k)) (here.1.0 ∙ fields) (runs_go_on from past fit run next.2) next.3 steps in record {
+      let rest = steps_go fails from (past ++ fit ∷ []) caches.0 after mid new lines outcomes caches.1 lasts (λ k. can (here.1.6 k)) (here.1.0 ∙ fields) (runs_go_on from past fit run next.2) next.3 steps in record {
         fitting = Outcome.replied fit ∷ rest.fitting;
         heard_all = (subst (λ schema. Hears json schema line (Heard.a_line e.line)) fields here.0, rest.heard_all);
         is_run = subst (IsRun from) (append_assoc past (fit ∷ []) (filter_map exchange rest.fitting)) rest.is_run;
@@ -266,13 +277,15 @@ module _ {D : Type 0} (bytes : D → ToldFiles) (may_leave : D → FileName → 
         promised =
             subst (LeavesPromised kind (device_of new) from) (append_assoc past (fit ∷ []) (filter_map exchange rest.fitting)) rest.promised;
         newest = rest.newest ∙ ap (newest_commit from) (append_assoc past (fit ∷ []) (filter_map exchange rest.fitting));
+        last_cache = rest.last_cache;
+        cached = rest.cached;
         last = rest.last;
         reasons = (
-          standing_of_service faults after mid,
-          reason_by (AlwaysTells bytes) (TellsAlways kind) always_tells (policy_of old).factor (policy_of old).least from past (standing_of_service faults tried old) fit (standing_of_service faults after mid)
-              (reasoned bytes can_fail faults tried after from past old mid e next.0 stands next.2 next.1 step.1
-              (tries_so bytes may_leave event e.line.command e.reply old mid tried here.1.4.1 here.1.4.2)),
-          subst (λ (p : MergePolicy). HaveReasons (TellsAlways kind) p.factor p.least from (past ++ fit ∷ []) (standing_of_service faults after mid) (filter_map exchange rest.fitting) (standing_of_service faults rest.last new))
+          standing_of_service faults caches.0 after mid,
+          reason_by (AlwaysTells bytes) (TellsAlways kind) always_tells (policy_of old).factor (policy_of old).least from past (standing_of_service faults cache tried old) fit (standing_of_service faults caches.0 after mid)
+              (reasoned bytes can_fail faults tried after cache caches.0 from past old mid e next.0 stands next.2 next.1 step.1
+              (tries_so bytes may_leave event e.line.command e.reply old mid tried here.1.4.1 here.1.4.2) (sets_counted old.sets cache cached) caches.2),
+          subst (λ (p : MergePolicy). HaveReasons (TellsAlways kind) p.factor p.least from (past ++ fit ∷ []) (standing_of_service faults caches.0 after mid) (filter_map exchange rest.fitting) (standing_of_service faults rest.last_cache rest.last new))
               step.1.5 rest.reasons,
         );
         calls = call ∷ rest.calls;
@@ -296,7 +309,7 @@ module _ {D : Type 0} (bytes : D → ToldFiles) (may_leave : D → FileName → 
   opening_less device (Some line) r o = o.0
 
   opening_so : (device : D) (line : Text) (w : Service D) (b : Bool) → OpensCaused bytes may_leave can_fail faults device (if b then None else Some line) (Ok w)
-      → OpensSo bytes can_fail faults device line w
+      → OpensSo bytes can_fail faults device line w × (w.sets ≡ record { cached = []; noted = []; warming = None })
   opening_so device line w true o =
       absurd (let no : ◌≡◌ {A = Result (Service D) (Unopened D)} (Ok w) (Err (record { refusal = NoForm; seed = device })) = o in cc)
   opening_so device line w false o = o.1
@@ -321,12 +334,12 @@ module _ {D : Type 0} (bytes : D → ToldFiles) (may_leave : D → FileName → 
       newest_of_mended g mended own.0 (kept ∙ own.1) gone)
 
   -- the generations of commits that a crash leaves are taken
-  taken_so : (opened last : Service D) (from : Opened) (run : Run) (tried : List ℕ) (calls : List (Call D)) → IsHistory bytes may_leave opened.ledger calls last.ledger
+  taken_so : (opened last : Service D) (from : Opened) (run : Run) (cache : Cache) (tried : List ℕ) (calls : List (Call D)) → IsHistory bytes may_leave opened.ledger calls last.ledger
       → (tells : TellsAlways kind) → LeavesNoneAhead may_leave opened.ledger → StageOutlives bytes may_leave (Open last)
       → newest_generation (shape_of_service last).commits ≡ newest_commit from run
       → ((g : ℕ) → HasRefused (events_of calls) g ⊎ Contains [] g → Contains tried g)
-      → HasTakenAll (kind.may_leave (device_of last)) from run (standing_of_service faults tried last)
-  taken_so opened last from run tried calls history tells none laws newest refused =
+      → HasTakenAll (kind.may_leave (device_of last)) from run (standing_of_service faults cache tried last)
+  taken_so opened last from run cache tried calls history tells none laws newest refused =
       found_so (λ g. (g < (shape_of_service last).next_generation) × ((newest_commit from run ≡ Some g) ⊎ Contains tried g)) (may_leave (device_of last))
       (λ image g crashed is. (
         laws.2 opened.ledger calls (always_tells tells) none history image g crashed is,
@@ -344,9 +357,11 @@ module _ {D : Type 0} (bytes : D → ToldFiles) (may_leave : D → FileName → 
   answered_in finds device first lines text a lasts laws =
       let long = nat_lt 10000 (length first) in
       let opened = opening_if_short device first a.opened long (opening_less device (if long then None else Some first) (Ok a.opened) a.begins) in
-      let so = opening_so device first a.opened long a.begins in
+      let begun = opening_so device first a.opened long a.begins in
+      let so = begun.0 in
       let opening = opened.0 in
-      let goes = steps_go (can_fail device) opening.0 [] [] a.opened a.left lines a.outcomes lasts opened.2 opening.2 tt opening.3 a.steps in record {
+      let none : Cache = record { sets = []; noted = []; making = None } in
+      let goes = steps_go (can_fail device) opening.0 [] none [] a.opened a.left lines a.outcomes (subst (λ f. IsCacheOf f none) (sym begun.1) no_sets) lasts opened.2 opening.2 tt opening.3 a.steps in record {
         served = record {
           from = opening.0;
           begins = begins_from (bytes device) first (Ok opening.0) opening.1;
@@ -369,13 +384,13 @@ module _ {D : Type 0} (bytes : D → ToldFiles) (may_leave : D → FileName → 
         least = (policy_of a.opened).least;
         fields = so.2;
         policy = so.3;
-        opened = standing_of_service faults [] a.opened;
+        opened = standing_of_service faults none [] a.opened;
         begins = stands_first bytes can_fail faults device opening.0.start.schema a.opened opening.2 so.0 so.1;
-        last = standing_of_service faults goes.last a.left;
+        last = standing_of_service faults goes.last_cache goes.last a.left;
         reasons = goes.reasons;
         failures = refl;
         taken = λ tells.
-            taken_so a.opened a.left opening.0 (filter_map exchange goes.fitting) goes.last goes.calls goes.history tells (opened.1 (always_tells tells)) laws
+            taken_so a.opened a.left opening.0 (filter_map exchange goes.fitting) goes.last_cache goes.last goes.calls goes.history tells (opened.1 (always_tells tells)) laws
             goes.newest goes.refused;
       }
 

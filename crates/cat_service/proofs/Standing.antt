@@ -1,6 +1,6 @@
 -- How a world stands that was opened.
 use Rattle.std.proofs.Common.{◌≡◌, ℕ, ◌+◌, ◌<◌, ◌≤◌, List, [], ◌∷◌, length, map, Bool, true, false, cond, ◌&&◌, ◌||◌, refl, sym, ◌∙◌, ap, subst, arith, inl, inr}
-use Rattle.std.specs.Prelude.{◌⊎◌, ◌==◌, All, Contains, count_by, option_map, slice_index_or}
+use Rattle.std.specs.Prelude.{◌⊎◌, ◌==◌, All, Contains, None, count_by, option_map, slice_index_or}
 use Rattle.std.specs.List.{AllByRecursion}
 use Rattle.std.proofs.lemmas.List.{length-map, get_or-map}
 use Rattle.std.proofs.lemmas.List.Elements.{All-from_recursion, Contains-append_right, recursion_from_All}
@@ -8,6 +8,7 @@ use Rattle.std.proofs.lemmas.List.Sums.{sum_by-cons}
 use Rattle.cat_model.specs.Files.{IsFileName, Name}
 use Rattle.cat_model.specs.Item.{Schema}
 use Rattle.cat_model.specs.Reasons.{AreFirstNumbers, AreNamesIn, HasLowerNumbers, StandsFirst}
+use Rattle.cat_model.specs.Standings.{Cache}
 use Rattle.cat_directory.specs.Devices.{CountsOne, Lists}
 use Rattle.cat_directory.specs.Names.{file_of, name_of}
 use Rattle.cat_directory.specs.declared.name.FileName.{FileName}
@@ -121,8 +122,11 @@ counted_first fails before now s (inl same) = inl same
 counted_first fails before now s (inr (can, one, (q, waits))) = inr (can, one, some_pending s.users (name_of q) waits)
 
 module _ {D : Type 0} (bytes : D → ToldFiles) (can_fail : D → Type 0) (faults : D → ℕ) (device : D) where
+  abbrev none_cached : Cache
+  none_cached = record { sets = []; noted = []; making = None }
+
   abbrev Begins : Schema → Service D → Type 0
-  Begins schema w = StandsFirst (named (bytes device)) (can_fail device) (faults device) schema (standing_of_service faults [] w)
+  Begins schema w = StandsFirst (named (bytes device)) (can_fail device) (faults device) schema (standing_of_service faults none_cached [] w)
 
   opened_so : (schema : Schema) (w : Service D) (mid : Shape) → HasOpened (bytes device) schema (bytes device) mid → Leaves [] mid (shape_of_service w)
       → CountsSwept (can_fail device) (faults device) (shape_of_service w) (faults (device_of w)) → Begins schema w
@@ -147,6 +151,7 @@ module _ {D : Type 0} (bytes : D → ToldFiles) (can_fail : D → Type 0) (fault
         });
         waits = ap (λ (x : Shape). length x.buffered) swept.rest ∙ ap (λ (x : Shape). length x.buffered) c.memory;
         idle = ap (λ (x : Shape). option_map progress_of x.merging) swept.rest ∙ ap (λ (x : Shape). option_map progress_of x.merging) c.memory;
+        cache = refl;
         counted = counted_first (can_fail device) (faults device) (faults (device_of w)) s counted;
         untried = refl;
       }
@@ -168,6 +173,7 @@ module _ {D : Type 0} (bytes : D → ToldFiles) (can_fail : D → Type 0) (fault
         );
         waits = ap (λ (x : Shape). length x.buffered) swept.rest ∙ ap (λ (x : Shape). length x.buffered) c.memory;
         idle = ap (λ (x : Shape). option_map progress_of x.merging) swept.rest ∙ ap (λ (x : Shape). option_map progress_of x.merging) c.memory;
+        cache = refl;
         counted = counted_first (can_fail device) (faults device) (faults (device_of w)) s counted;
         untried = refl;
       }

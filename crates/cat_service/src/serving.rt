@@ -63,10 +63,11 @@ fn device_left<D: Directory + Shelf>(stage: Stage<World<D>, D>) -> D
 /// counts one failure more at that line, and that memory was wanting, only where it counts none; no failure is forgotten.
 /// That a file is damaged is told, where such directories always tell of their files, to no MERGE, and to a GET only where
 /// the text has a line feed; else to a MERGE only where it has rows to copy. A COMMIT tells the generation that comes next,
-/// and takes it; SWEEP, STAT, MERGE and FORCE tell what is so, and behind a SWEEP with an OK no file waits to be deleted. A
-/// COMMIT that is refused, but not for its text, takes the generation that it tried, so that no later line is told it:
-/// where such directories always tell of their files, whatever commit a crash leaves as the newest is the last that was
-/// answered or opened, or was tried so.
+/// and takes it; SWEEP, STAT, MERGE, FORCE and WARM tell what is so, and behind a SWEEP with an OK no file waits to be deleted.
+/// A STAT tells as many waiting items and live rows as the table has items, and how many sets of rows are cached; a WARM tells
+/// `idle` only where each noted query has its set in each segment, and else which step it took. A COMMIT that is refused, but
+/// not for its text, takes the generation that it tried, so that no later line is told it: where such directories always tell
+/// of their files, whatever commit a crash leaves as the newest is the last that was answered or opened, or was tried so.
 ///
 /// It flushes before each read, so that a client which waits for a reply has it. Its two buffers are taken before the first
 /// line is read, and replies are written without taking memory. The reader is called at most 4,294,967,295 times.

@@ -4,6 +4,7 @@ ghost use Rattle.cat_model.specs.Calls.{CallsAreOpened, HeldReadsAgreeInCalls};
 ghost use Rattle.cat_model.specs.Found.{CallsAreFound, ReadsAgreeAfterwards};
 ghost use Rattle.cat_items.specs.Reading.{json};
 ghost use Rattle.cat_directory.specs.Names.{by_names};
+ghost use Rattle.cat_service.specs.theorem.MissingSets.{MissingSetsAreTold};
 ghost use Rattle.cat_service.specs.theorem.Openings.{DirectoriesOpenOneWay};
 
 use cat_commands::cat_protocol::cat_segment::{
@@ -48,3 +49,19 @@ pub fn directories_open_one_way()
     segments_are_told_by_their_bytes();
     live_rows_are_told_by_their_bytes();
 }
+
+/// What the causes of replies leave a call of `serve` to tell of cached sets, where PUT, REFRESH, OPEN and FIND come first and are
+/// each answered OK. A segment stands then that has the item, the query of the FIND is noted, and no set of rows is cached.
+///
+/// - *warm*: a WARM that comes next isn't told that there is nothing to do.
+/// - *stat*: a STAT that comes next counts no set.
+/// - *again*: where the call opened neither an item nor a segment, and two WARMs make a set and store it, and then a PUT of another
+///   id and a REFRESH are answered OK, a WARM isn't told that there is nothing to do: the second segment's set is missing.
+///
+/// So a service that tells every WARM `idle`, or every one once each query has some set, has no causes for it, whatever it tells
+/// of its segments.
+///
+/// The news of WARM are our own; Lucene caches what its `UsageTrackingQueryCachingPolicy` saw often enough, and tells nobody.
+pub fn missing_sets_are_told<D: Directory + Shelf>()
+    ensures { MissingSetsAreTold json (by_names D.bytes D.may_leave D.can_fail D.fault_count) }
+{}

@@ -26,10 +26,10 @@ invariant_of-self g c =
 pub returns-clause-does : goal.returns-clause-does
 returns-clause-does g c = rw (← c.self.view_is) (
     does g.D.Holder.bytes g.D.Holder.can_fail g.D.Holder.fault_count c.args.session (Said.chore (chore_of c.args.chore)) c.self.inside.ledger (reply_of c.maintain.result) c.maintain.new.ledger
-    c.maintain.new.filters c.self.invariant (chore_caused g.D.Holder.bytes g.D.Holder.can_fail g.D.Holder.fault_count c.self.inside.ledger c.self.inside.filters c.maintain.result c.maintain.new.ledger c.maintain.new.filters c.args.session c.self.invariant.carried (λ k. let f = c.maintain.ensures.foreign k in (f.0, f.1)) c.args.chore c.maintain.ensures.answers c.maintain.ensures.told c.maintain.ensures.refusal c.maintain.ensures.lacks c.maintain.ensures.reach c.maintain.ensures.device c.maintain.ensures.counted c.maintain.ensures.quiet c.maintain.ensures.swept c.maintain.ensures.rises c.maintain.ensures.keeps)
+    c.maintain.new.filters c.self.invariant (chore_caused g.D.Holder.bytes g.D.Holder.can_fail g.D.Holder.fault_count c.self.inside.ledger c.self.inside.filters c.maintain.result c.maintain.new.ledger c.maintain.new.filters c.args.session c.self.invariant.carried (λ k. let f = c.maintain.ensures.foreign k in (f.0, f.1)) c.args.chore c.maintain.ensures.answers c.maintain.ensures.told c.maintain.ensures.refusal c.maintain.ensures.lacks c.maintain.ensures.reach c.maintain.ensures.fails c.maintain.ensures.swept c.maintain.ensures.keeps)
     (chore_uses c.args.session c.self.inside.ledger c.maintain.new.ledger c.self.inside.filters c.maintain.new.filters c.args.chore (reply_of c.maintain.result)
-    (λ k. let f = c.maintain.ensures.foreign k in f.2) c.maintain.ensures.sets) c.maintain.ensures.answers c.maintain.ensures.can c.maintain.ensures.policy refl
+    (λ k. let f = c.maintain.ensures.foreign k in f.2) c.maintain.ensures.sets) c.maintain.ensures.answers c.maintain.ensures.fails.can c.maintain.ensures.goes.policy refl
     (λ k. maintained_wants (g.D.Holder.bytes (device_in c.self.inside.ledger)) (shape_in c.self.inside.ledger) c.args.session c.maintain.result (stopped c.maintain.result k) (policy_in c.self.inside.ledger) c.args.chore (λ k. let f = c.maintain.ensures.foreign k in (f.0, f.1)) c.maintain.ensures.refusal))
 
 pub returns-clause-history : goal.returns-clause-history
-returns-clause-history g c = rw (← c.self.view_is) c.maintain.ensures.history
+returns-clause-history g c = rw (← c.self.view_is) c.maintain.ensures.goes.history

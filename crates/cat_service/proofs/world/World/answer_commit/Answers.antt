@@ -15,7 +15,7 @@ invariant_of-self g c =
 pub returns-clause-does : goal.returns-clause-does
 returns-clause-does g c = rw (← c.self.view_is) (λ session.
     does g.D.Holder.bytes g.D.Holder.can_fail g.D.Holder.fault_count session (Said.commit c.args.text.now) c.self.inside.ledger (reply_of c.commit.result) c.commit.new.ledger
-    c.self.inside.filters c.self.invariant (commit_caused g.D.Holder.bytes g.D.Holder.can_fail g.D.Holder.fault_count c.self.inside.ledger c.self.inside.filters c.commit.result c.commit.new.ledger c.self.inside.filters g.D.Holder.may_leave c.args.text.now c.commit.ensures.wrong c.commit.ensures.spent c.commit.ensures.device c.commit.ensures.counted c.commit.ensures.quiet c.commit.ensures.history c.commit.ensures.rises c.commit.ensures.stays) refl (c.commit.ensures.answers session) c.commit.ensures.can c.commit.ensures.policy refl
+    c.self.inside.filters c.self.invariant (commit_caused g.D.Holder.bytes g.D.Holder.can_fail g.D.Holder.fault_count c.self.inside.ledger c.self.inside.filters c.commit.result c.commit.new.ledger c.self.inside.filters g.D.Holder.may_leave c.args.text.now c.commit.ensures.wrong c.commit.ensures.spent c.commit.ensures.fails c.commit.ensures.history c.commit.ensures.stays) refl (c.commit.ensures.answers session) c.commit.ensures.fails.can c.commit.ensures.policy refl
     (λ k. commit_wants (g.D.Holder.bytes (device_in c.self.inside.ledger)) (shape_in c.self.inside.ledger) session c.commit.result (stopped c.commit.result k) _ c.args.text.now c.commit.ensures.wrong c.commit.ensures.none c.commit.ensures.due))
 
 pub returns-clause-history : goal.returns-clause-history

@@ -15,8 +15,8 @@ invariant_of-self g c =
 pub returns-clause-does : goal.returns-clause-does
 returns-clause-does g c = rw (← c.self.view_is) (λ session.
     does g.D.Holder.bytes g.D.Holder.can_fail g.D.Holder.fault_count session Said.refresh c.self.inside.ledger (reply_of c.refresh.result) c.refresh.new.ledger
-    c.self.inside.filters c.self.invariant (refresh_caused g.D.Holder.bytes g.D.Holder.can_fail g.D.Holder.fault_count c.self.inside.ledger c.self.inside.filters c.refresh.result c.refresh.new.ledger c.self.inside.filters c.refresh.ensures.spent c.refresh.ensures.device c.refresh.ensures.counted c.refresh.ensures.quiet c.refresh.ensures.rises c.refresh.ensures.stays) refl (c.refresh.ensures.answers session) c.refresh.ensures.can c.refresh.ensures.policy refl
+    c.self.inside.filters c.self.invariant (refresh_caused g.D.Holder.bytes g.D.Holder.can_fail g.D.Holder.fault_count c.self.inside.ledger c.self.inside.filters c.refresh.result c.refresh.new.ledger c.self.inside.filters c.refresh.ensures.spent c.refresh.ensures.fails c.refresh.ensures.stays) refl (c.refresh.ensures.answers session) c.refresh.ensures.fails.can c.refresh.ensures.goes.policy refl
     (λ k. refresh_wants (g.D.Holder.bytes (device_in c.self.inside.ledger)) (shape_in c.self.inside.ledger) session c.refresh.result (stopped c.refresh.result k) c.refresh.ensures.full c.refresh.ensures.due))
 
 pub returns-clause-history : goal.returns-clause-history
-returns-clause-history g c = rw (← c.self.view_is) c.refresh.ensures.history
+returns-clause-history g c = rw (← c.self.view_is) c.refresh.ensures.goes.history
