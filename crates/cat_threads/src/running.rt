@@ -67,17 +67,6 @@ enum Work {
     Warm,
 }
 
-/// Does a chore, once the gate was told that the lock is held.
-fn do_chore<D: Directory + Shelf, J: Naming, R: Wait, G: Gate>(
-    rt: &R,
-    service: &Service<D, J>,
-    gate: &mut G,
-    chore: Chore,
-) -> Progress {
-    let outcome = service.turn(rt, gate, chore);
-    outcome.worker_progress()
-}
-
 /// A step of the work: a merge that is done is followed by a sweep.
 fn step<D: Directory + Shelf, J: Naming, R: Wait, G: Gate>(
     rt: &R,
@@ -86,11 +75,11 @@ fn step<D: Directory + Shelf, J: Naming, R: Wait, G: Gate>(
     work: Work,
 ) -> Progress {
     match work {
-        Work::Warm => do_chore(rt, service, gate, Chore::Warm),
+        Work::Warm => service.turn(rt, gate, Chore::Warm).worker_progress(),
         Work::Merge => {
-            let merged = do_chore(rt, service, gate, Chore::Merge);
+            let merged = service.turn(rt, gate, Chore::Merge).worker_progress();
             if matches!(merged, Progress::Merged) {
-                let _swept = do_chore(rt, service, gate, Chore::Sweep);
+                let _swept = service.turn(rt, gate, Chore::Sweep);
             }
             merged
         }

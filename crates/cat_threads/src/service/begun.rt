@@ -1,10 +1,12 @@
 //! A ledger as it is opened, beside the words of an empty list, before they have a name.
-ghost use Rattle.std.specs.Prelude.{◌≡◌, ◌⊎◌, ℕ, IfOk, IfErr};
+ghost use Rattle.std.specs.Prelude.{◌≡◌, ◌⊎◌, ℕ, [], IfOk, IfErr};
+ghost use Rattle.crossbeam_utils.specs.Seq.{cell_view};
 ghost use Rattle.cat_base.specs.declared.refusal.Refusal.TheVariants.{Damaged, Device, Kind, Memory};
 ghost use Rattle.cat_directory.specs.declared.name.FileName.{FileName};
 ghost use Rattle.cat_commands.specs.cat_ledger.Ledgers.{device_in, policy_in, shape_in};
 ghost use Rattle.cat_commands.specs.cat_ledger.Openings.{IsOpenedLedger};
 ghost use Rattle.cat_commands.specs.cat_ledger.cat_ledger_state.startup.Refused.{IsNewestDamaged, IsNewestForeign};
+ghost use Rattle.cat_threads.specs.history.Rules.{scribe as scribe_sight};
 ghost use Rattle.cat_threads.specs.service.Begins.{IsJustOpened};
 
 use crate::history::{self, Cell, Seat};
@@ -20,7 +22,6 @@ use std::marker::Model;
 /// function that a call names by `Brand`.
 ///
 /// Contracts see it as the name of its words, and the ledger.
-#[derive(Drop)]
 pub struct Begun<D: Directory + Shelf> {
     pub(crate) cell: Cell,
     pub(crate) scribe: Seat,
@@ -40,6 +41,18 @@ impl<D: Directory + Shelf> Model for Begun<D> {
 
     ghost invariant = { λ b. (b.scribe.table_id ≡ b.cell.table.shared.table_id) × (cell_view b.scribe ≡ rules.scribe [] 0 [] [])
         × begins.IsJustOpened (D.bytes (device_in b.ledger)) (shape_in b.ledger) };
+}
+
+// By hand, as the desk's: what is derived is proved anew in each crate that lets one go, down to the last field of a segment.
+impl<D: Directory + Shelf + Drop> Drop for Begun<D> {
+    fn drop(self) {
+        let Begun {
+            cell: _,
+            scribe: _,
+            ledger,
+        } = self;
+        let _directory = ledger.into_directory();
+    }
 }
 
 impl<D: Directory + Shelf> Begun<D> {
@@ -74,6 +87,21 @@ impl<D: Directory + Shelf> Begun<D> {
             }),
             Err(not) => Err(not),
         }
+    }
+
+    /// Its words, the pass that knows their whole list, and the ledger.
+    pub(crate) fn into_parts(self) -> (Cell, Seat, Ledger<D>)
+        ensures cell { result.0.table.shared.table_id ≡ self.table }
+        ensures scribe { (result.1.table_id ≡ self.table) × (cell_view result.1 ≡ scribe_sight [] 0 [] []) }
+        ensures ledger { result.2 ≡ self.ledger }
+        ensures opened { IsJustOpened (D.bytes (device_in self.ledger)) (shape_in self.ledger) }
+    {
+        let Begun {
+            cell,
+            scribe,
+            ledger,
+        } = self;
+        (cell, scribe, ledger)
     }
 
     /// How many writes were accepted before, which is the token of the view that is recorded.

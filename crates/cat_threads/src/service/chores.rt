@@ -18,7 +18,6 @@ use cat_directory::{Directory, Shelf};
 use std::alloc::Global;
 
 /// A call that serves all sessions: what session 0 may say in a line, which needs no right to a view.
-#[derive(Drop)]
 pub enum Chore {
     /// MERGE: a step of the merge that the policy picks. (Lucene: `IndexWriter.maybeMerge`.)
     Merge,
@@ -44,6 +43,17 @@ pub enum Chore {
     Files(Generation),
 }
 
+impl Drop for Chore {
+    fn drop(self) {
+        match self {
+            Chore::Commit(text) => drop(text),
+            Chore::Merge | Chore::Force | Chore::Warm | Chore::Sweep | Chore::Stat | Chore::Snap =>
+                {}
+            Chore::Note(_) | Chore::Unsnap(_) | Chore::Prune(_) | Chore::Files(_) => {}
+        }
+    }
+}
+
 /// What came of a worker's chore.
 #[derive(Clone, Copy)]
 pub(crate) enum Progress {
@@ -57,10 +67,17 @@ pub(crate) enum Progress {
 
 /// A chore, and what it was answered. [`Service::maintain`](crate::Service::maintain) alone makes one, and it can't be copied, so
 /// who has it is sure that the chore was done.
-#[derive(Drop)]
 pub struct Outcome {
     chore: Chore,
     answer: Result<Answer, Refusal>,
+}
+
+impl Drop for Outcome {
+    fn drop(self) {
+        let Outcome { chore, answer } = self;
+        drop(chore);
+        drop(answer);
+    }
 }
 
 impl Outcome {
@@ -90,7 +107,8 @@ impl Outcome {
     pub fn into_answer(self) -> Result<Answer, Refusal>
         ensures { result ≡ answer_told self }
     {
-        self.answer
+        let Outcome { chore: _, answer } = self;
+        answer
     }
 
     /// Whether it says that a merge is done, whose segment stands in the place of those that it took.

@@ -35,11 +35,17 @@ use std::sync::{Mutex, Wait};
 /// are asked of a [`Hold`], which needs no lock. (Lucene: an `IndexWriter` and a `SearcherLifetimeManager` that threads share.)
 ///
 /// What a call says holds if it returns; that it is ever given the lock isn't promised.
-#[derive(Drop)]
 pub struct Service<D: Directory + Shelf, J: Naming> {
     cell: Cell,
     desk: Mutex<Desk<D, J>>,
     ghost named: { cell.table.shared.table_id ≡ J.table },
+}
+
+impl<D: Directory + Shelf + Drop, J: Naming> Drop for Service<D, J> {
+    fn drop(self) {
+        let Service { cell: _, desk } = self;
+        drop(desk);
+    }
 }
 
 impl<D: Directory + Shelf, J: Naming> Service<D, J> {
@@ -192,11 +198,8 @@ impl<D: Directory + Shelf, J: Naming> Service<D, J> {
         ensures passes { IfOk result (λ r. r.1.items ≡ map (newcomer J.from.start.token) sessions.now) }
         ensures err { IfErr result (λ l. l ≡ begun.ledger) }
     {
-        let Begun {
-            cell,
-            mut scribe,
-            ledger,
-        } = begun;
+        let (cell, scribe, ledger) = begun.into_parts();
+        let mut scribe = scribe;
         let Ok(passes) = seats(alloc, &cell, &mut scribe, sessions) else {
             return Err(ledger);
         };
