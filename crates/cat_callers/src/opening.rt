@@ -1,5 +1,5 @@
 //! Services that a schema line opens.
-ghost use Rattle.std.specs.Prelude.{◌≡◌, [], true, IfOk};
+ghost use Rattle.std.specs.Prelude.{◌≡◌, [], true};
 ghost use Rattle.cat_model.specs.Served.{SpellsSchema};
 ghost use Rattle.cat_model.specs.Text.{Text};
 ghost use Rattle.cat_threads.specs.cat_commands.cat_ledger.Ledgers.{shape_in};
@@ -38,10 +38,17 @@ fn policy_of(found: &SchemaLine) -> MergePolicy
     }
 }
 
+/// What a schema line gives.
+struct First {
+    schema: Schema,
+    /// The same once more.
+    shared: Schema,
+    policy: MergePolicy,
+    ghost same: { schema ≡ shared },
+}
+
 /// The schema that the line gives, twice, and its policy. The refusals are those of a schema line.
-fn read_first(alloc: Global, line: &[u8]) -> Result<(Schema, Schema, MergePolicy), Refusal>
-    ensures { IfOk result (λ r. r.0 ≡ r.1) }
-{
+fn read_first(alloc: Global, line: &[u8]) -> Result<First, Refusal> {
     let Some(text) = text_of(line) else {
         return Err(Refusal::Line);
     };
@@ -50,7 +57,28 @@ fn read_first(alloc: Global, line: &[u8]) -> Result<(Schema, Schema, MergePolicy
     };
     let schema = Schema::read(alloc, found.json.as_bytes())?;
     let shared = schema.copy()?;
-    Ok((schema, shared, policy_of(&found)))
+    Ok(First {
+        schema,
+        shared,
+        policy: policy_of(&found),
+    })
+}
+
+/// Opens the newest commit of the directory, or an empty catalogue where there is none, under what a line gave.
+fn begin_as<D: Directory + Shelf + Drop>(
+    alloc: Global,
+    device: D,
+    first: First,
+) -> Result<Opened<D>, Refusal> {
+    let First {
+        schema: read,
+        shared: schema,
+        policy,
+    } = first;
+    match Begun::open(alloc, device, read, policy) {
+        Ok(begun) => Ok(Opened { begun, schema }),
+        Err(not) => Err(not.refusal),
+    }
 }
 
 /// Opens the newest commit of the directory, or an empty catalogue where there is none, under the schema that the line gives. The
@@ -60,10 +88,9 @@ fn begin<D: Directory + Shelf + Drop>(
     device: D,
     line: &[u8],
 ) -> Result<Opened<D>, Refusal> {
-    let (read, schema, policy) = read_first(alloc, line)?;
-    match Begun::open(alloc, device, read, policy) {
-        Ok(begun) => Ok(Opened { begun, schema }),
-        Err(not) => Err(not.refusal),
+    match read_first(alloc, line) {
+        Ok(first) => begin_as(alloc, device, first),
+        Err(refusal) => Err(refusal),
     }
 }
 
