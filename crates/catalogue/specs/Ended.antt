@@ -6,6 +6,8 @@ use Rattle.cat_callers.specs.declared.threads.Fault.{Fault as ThreadsFault}
 use Rattle.cat_callers.specs.declared.threads.Fault.TheVariants as threads
 use Rattle.catalogue.specs.declared.endings.RunFault.{RunFault}
 use Rattle.catalogue.specs.declared.endings.RunFault.TheVariants.{InUse, Serving, NotStarted}
+use Rattle.catalogue.specs.declared.threading.Threading.{Threading}
+use Rattle.catalogue.specs.declared.threading.Threading.TheVariants.{By, Each}
 use Rattle.catalogue.specs.declared.endings.Ending.{Ending}
 use Rattle.catalogue.specs.declared.endings.Ending.TheVariants.{EndOfInput, WrongArguments, SchemaRefused, Fault, Unstarted}
 
@@ -27,6 +29,16 @@ threads_fault threads.Write = Serving fault.Write
 abbrev pub serving_told : Result (Unit {0}) ServeFault → Result (Unit {0}) RunFault
 serving_told (Ok u) = Ok u
 serving_told (Err fault) = Err (Serving fault)
+
+-- and of sessions in threads
+abbrev pub threads_told : Result (Unit {0}) ThreadsFault → Result (Unit {0}) RunFault
+threads_told (Ok u) = Ok u
+threads_told (Err fault) = Err (threads_fault fault)
+
+-- how many shelves of a folder are asked for: one for each thread
+abbrev pub shelf_count_of : Threading → ℕ
+shelf_count_of Each = 64
+shelf_count_of (By count) = count
 
 -- how the program ends, by how serving did
 abbrev pub ending_of : Result (Unit {0}) RunFault → Ending

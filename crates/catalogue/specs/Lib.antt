@@ -1,3 +1,5 @@
+pub mod Acts
 pub mod Asked
 pub mod Ended
+pub mod Runs
 pub mod Served

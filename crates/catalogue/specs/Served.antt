@@ -1,8 +1,17 @@
--- What serving over the program's streams, and over the folder of a path, comes to.
-use Rattle.std.specs.Prelude.{◌≡◌, ◌⊎◌, ℕ, List, [], Option, Some, None, Result, Err, MatchResult}
+-- What serving over the program's streams, and over the folder of a path, comes to: what is asked of the system, in this order, and nothing
+-- else.
+--
+-- S is the type of systems, F that of their folders, L that of the locks of these, I and O those of standard input and standard output.
+-- `does` says what is done from one state of a system to the next, `remaining` what there is to read, `contents` what was written, and
+-- `kind` how folders behave.
+use Rattle.std.specs.Prelude.{◌≡◌, ◌⊎◌, ℕ, Bool, true, false, List, [], Option, Some, None, Result, Err, MatchResult}
+use Rattle.std.specs.declared.alloc.AllocError.{AllocError}
+use Rattle.cat_base.specs.declared.refusal.Refusal.TheVariants.{Memory}
 use Rattle.cat_model.specs.Text.{Text}
 use Rattle.cat_model.specs.Told.{DirectoryKind}
+use Rattle.cat_model.specs.Served.{refused_text}
 use Rattle.cat_model.specs.Serving.{ServesIn}
+use Rattle.cat_model.specs.Reasons.{CausesIn}
 use Rattle.cat_items.specs.Reading.{json}
 use Rattle.cat_directory.specs.declared.lock.LockRefusal.{LockRefusal}
 use Rattle.cat_directory.specs.declared.lock.LockRefusal.TheVariants as refusal
@@ -11,95 +20,135 @@ use Rattle.cat_directory.specs.declared.name.FileName.{FileName}
 use Rattle.cat_directory.specs.Memory.{bytes_of, failures_of}
 use Rattle.cat_directory.specs.Names.{by_names}
 use Rattle.cat_service.specs.cat_protocol.declared.serving.serving.ServeFault.{ServeFault}
-use Rattle.cat_service.specs.cat_protocol.declared.serving.serving.ServeFault.TheVariants as fault
-use Rattle.cat_service.specs.cat_protocol.serving.Serving.{ended_as}
-use Rattle.catalogue.specs.declared.arguments.Task.{Task}
-use Rattle.catalogue.specs.declared.arguments.Task.TheVariants as task
+use Rattle.cat_service.specs.cat_protocol.serving.Serving.{IsRefusedAs, ended_as}
+use Rattle.cat_callers.specs.declared.threads.Fault.{Fault as ThreadsFault}
 use Rattle.catalogue.specs.declared.endings.RunFault.{RunFault}
-use Rattle.catalogue.specs.declared.endings.Ending.{Ending}
-use Rattle.catalogue.specs.declared.endings.Ending.TheVariants.{EndOfInput, WrongArguments, Fault}
-use Rattle.catalogue.specs.Asked.{asked_of, task_told}
-use Rattle.catalogue.specs.Ended.{ending_of, in_use_fault, serving_told, status_of}
+use Rattle.catalogue.specs.Acts.{Act}
+use Rattle.catalogue.specs.Ended.{in_use_fault, serving_told, threads_told}
 
 -- ---- one directory
 
--- Lines were read from a reader of this kind and served over the device, and that ended so: what was read then, `serve` says.
-abbrev pub IsServedOver : {D I : Type 0} → DirectoryKind D → (I → Option Text) → D → Result (Unit {0}) ServeFault → Type 0
-IsServedOver {D} {I} kind remaining device ended =
-    (left : D) × (reader now : I) × (before after : Option Text)
-    × ServesIn json kind device left (remaining reader) (remaining now) before after (ended_as ended)
+-- The lines of standard input were served over the device to standard output, and that ended so and left the other device; nothing else was
+-- read or written.
+pub record ServesStreams {S F L I O D : Type 0} (does : S → Act F L I O → S → Type 0) (remaining : I → Option Text) (contents : O → Option Text)
+    (kind : DirectoryKind D) (device left : D) (s : S) (ended : Result (Unit {0}) ServeFault) (t : S) : Type 0 where
+  pub input : I
+  pub rest : I
+  pub before : O
+  pub after : O
+  pub streamed : S
+  pub read : S
+  pub streams : does s (Act.streamed input before) streamed
+  pub served : ServesIn json kind device left (remaining input) (remaining rest) (contents before) (contents after) (ended_as ended)
+  pub caused : CausesIn json kind device left (remaining input) (remaining rest) (contents before) (contents after) (ended_as ended)
+  pub reads : does streamed (Act.closed_input rest) read
+  pub writes : does read (Act.closed_output after) t
 
--- memory was wanting before a line was read, which is said as of a schema line, unless it can't be written
-abbrev pub IsRefusedAtOnce : Result (Unit {0}) ServeFault → Type 0
-IsRefusedAtOnce ended = (ended ≡ Err fault.Schema) ⊎ (ended ≡ Err fault.Write)
+-- Memory was wanting before a line was read, which is written as of a schema line, or a front of it where that fails. Nothing is read.
+pub record RefusesAtOnce {S F L I O : Type 0} (does : S → Act F L I O → S → Type 0) (contents : O → Option Text) (s : S)
+    (ended : Result (Unit {0}) ServeFault) (t : S) : Type 0 where
+  pub input : I
+  pub before : O
+  pub after : O
+  pub streamed : S
+  pub read : S
+  pub streams : does s (Act.streamed input before) streamed
+  pub why : ServeFault
+  pub refused : IsRefusedAs (contents before) (contents after) (refused_text Memory) why
+  pub ended_is : ended ≡ Err why
+  pub reads : does streamed (Act.closed_input input) read
+  pub writes : does read (Act.closed_output after) t
 
 -- files in memory, as a device
 abbrev pub memory_kind : DirectoryKind MemoryDirectory
 memory_kind = by_names bytes_of (λ d q e. bytes_of d q ≡ Some e) (λ d. ⊥) failures_of
 
--- so it ended over files in memory, of which none was there
-abbrev pub IsServedInMemory : {I : Type 0} → (I → Option Text) → Result (Unit {0}) RunFault → Type 0
-IsServedInMemory remaining told =
-    (ended : Result (Unit {0}) ServeFault) × (device : MemoryDirectory) × ((q : FileName) → bytes_of device q ≡ Some None)
-    × IsServedOver memory_kind remaining device ended × (told ≡ serving_told ended)
+-- so it went over files in memory, of which none was there, and is told
+abbrev pub ServesMemory : {S F L I O : Type 0} → (S → Act F L I O → S → Type 0) → (I → Option Text) → (O → Option Text) → S
+    → Result (Unit {0}) RunFault → S → Type 0
+ServesMemory does remaining contents s told t =
+    (ended : Result (Unit {0}) ServeFault) × (device left : MemoryDirectory) × ((q : FileName) → bytes_of device q ≡ Some None)
+    × ServesStreams does remaining contents memory_kind device left s ended t × (told ≡ serving_told ended)
 
 -- ---- the folder of a path
 
--- so it ended over a folder that the path leads to, unless memory for it was wanting
-abbrev pub IsServedAt : {F I : Type 0} → (List ℕ → F → Type 0) → DirectoryKind F → (I → Option Text) → List ℕ → Result (Unit {0}) ServeFault → Type 0
-IsServedAt {F} leads kind remaining path ended = IsRefusedAtOnce ended ⊎ ((folder : F) × leads path folder × IsServedOver kind remaining folder ended)
+-- so it went over the folder, which is let go as serving left it
+abbrev pub ServesFolder : {S F L I O : Type 0} → (S → Act F L I O → S → Type 0) → (I → Option Text) → (O → Option Text) → DirectoryKind F → F → S
+    → Result (Unit {0}) ServeFault → S → Type 0
+ServesFolder {S} {F} does remaining contents kind folder s ended t =
+    (left : F) × (served : S) × ServesStreams does remaining contents kind folder left s ended served × does served (Act.left left) t
+
+-- and over the folder at the path, unless memory for it was wanting
+abbrev pub ServesAt : {S F L I O : Type 0} → (S → Act F L I O → S → Type 0) → (I → Option Text) → (O → Option Text) → DirectoryKind F → List ℕ → S
+    → Result (Unit {0}) ServeFault → S → Type 0
+ServesAt {S} {F} does remaining contents kind path s ended t =
+    (answer : Result F AllocError) × (opened : S) × does s (Act.opened path answer) opened
+    × MatchResult answer (λ folder. ServesFolder does remaining contents kind folder opened ended t) (λ e. RefusesAtOnce does contents opened ended t)
 
 -- and this is told
-abbrev pub IsToldAt : {F I : Type 0} → (List ℕ → F → Type 0) → DirectoryKind F → (I → Option Text) → List ℕ → Result (Unit {0}) RunFault → Type 0
-IsToldAt leads kind remaining path told =
-    (ended : Result (Unit {0}) ServeFault) × IsServedAt leads kind remaining path ended × (told ≡ serving_told ended)
+abbrev pub TellsServed : {S : Type 0} → (S → Result (Unit {0}) ServeFault → S → Type 0) → S → Result (Unit {0}) RunFault → S → Type 0
+TellsServed serves s told t = (ended : Result (Unit {0}) ServeFault) × serves s ended t × (told ≡ serving_told ended)
 
 -- What is told where the lock of a folder isn't had: lines were served over the folder of no path, and that the folder is in use is told
 -- where it is, unless a read or a write failed; or memory was wanting.
-abbrev pub IsToldUnlocked : {F I : Type 0} → (List ℕ → F → Type 0) → DirectoryKind F → (I → Option Text) → LockRefusal → Result (Unit {0}) RunFault → Type 0
-IsToldUnlocked leads kind remaining refusal.InUse told =
-    (ended : Result (Unit {0}) ServeFault) × IsServedAt leads kind remaining [] ended × (told ≡ Err (in_use_fault ended))
-IsToldUnlocked leads kind remaining refusal.Device told = IsToldAt leads kind remaining [] told
-IsToldUnlocked leads kind remaining refusal.Memory told =
-    (ended : Result (Unit {0}) ServeFault) × IsRefusedAtOnce ended × (told ≡ serving_told ended)
+abbrev pub ServesUnlocked : {S F L I O : Type 0} → (S → Act F L I O → S → Type 0) → (I → Option Text) → (O → Option Text) → DirectoryKind F
+    → LockRefusal → S → Result (Unit {0}) RunFault → S → Type 0
+ServesUnlocked does remaining contents kind refusal.InUse s told t =
+    (ended : Result (Unit {0}) ServeFault) × ServesAt does remaining contents kind [] s ended t × (told ≡ Err (in_use_fault ended))
+ServesUnlocked does remaining contents kind refusal.Device s told t = TellsServed (ServesAt does remaining contents kind []) s told t
+ServesUnlocked does remaining contents kind refusal.Memory s told t = TellsServed (RefusesAtOnce does contents) s told t
 
--- What is told by how the lock of the path's folder was asked for: where it is had, the first argument says it.
-abbrev pub IsToldByLock : {F L I : Type 0} → Type 0 → (List ℕ → Result L LockRefusal → Type 0) → (List ℕ → F → Type 0) → DirectoryKind F
-    → (I → Option Text) → List ℕ → Result (Unit {0}) RunFault → Type 0
-IsToldByLock {L = L} locked locks leads kind remaining path told =
-    (answer : Result L LockRefusal) × locks path answer × MatchResult answer (λ lock. locked) (λ e. IsToldUnlocked leads kind remaining e told)
+-- The lock of the path's folder is asked for: where it is had, it is kept until what the first argument says was done.
+abbrev pub LocksFirst : {S F L I O : Type 0} → (S → Result (Unit {0}) RunFault → S → Type 0) → (S → Act F L I O → S → Type 0) → (I → Option Text)
+    → (O → Option Text) → DirectoryKind F → List ℕ → S → Result (Unit {0}) RunFault → S → Type 0
+LocksFirst {S} {L = L} locked does remaining contents kind path s told t =
+    (answer : Result L LockRefusal) × (asked : S) × does s (Act.locked path answer) asked
+    × MatchResult answer (λ lock. (done : S) × locked asked told done × does done (Act.unlocked lock) t)
+    (λ e. ServesUnlocked does remaining contents kind e asked told t)
 
 -- so it is told of serving over the folder of the path
-abbrev pub IsToldIfFree : {F L I : Type 0} → (List ℕ → Result L LockRefusal → Type 0) → (List ℕ → F → Type 0) → DirectoryKind F
-    → (I → Option Text) → List ℕ → Result (Unit {0}) RunFault → Type 0
-IsToldIfFree locks leads kind remaining path told = IsToldByLock (IsToldAt leads kind remaining path told) locks leads kind remaining path told
+abbrev pub ServesPath : {S F L I O : Type 0} → (S → Act F L I O → S → Type 0) → (I → Option Text) → (O → Option Text) → DirectoryKind F → List ℕ → S
+    → Result (Unit {0}) RunFault → S → Type 0
+ServesPath does remaining contents kind path =
+    LocksFirst (TellsServed (ServesAt does remaining contents kind path)) does remaining contents kind path
 
--- and so in threads, where no clause says what is told of a folder whose lock is had
-abbrev pub IsThreadedIfFree : {F L I : Type 0} → (List ℕ → Result L LockRefusal → Type 0) → (List ℕ → F → Type 0) → DirectoryKind F
-    → (I → Option Text) → List ℕ → Result (Unit {0}) RunFault → Type 0
-IsThreadedIfFree = IsToldByLock (Unit {0})
+-- ---- in threads
 
--- ---- how the program ends
+-- The lines of standard input are answered by threads, to standard output: what they are told, no clause says.
+pub record ThreadsStreams {S F L I O : Type 0} (does : S → Act F L I O → S → Type 0) (s : S) (told : Result (Unit {0}) RunFault) (t : S) : Type 0 where
+  pub input : I
+  pub rest : I
+  pub output : O
+  pub streamed : S
+  pub streams : does s (Act.streamed input output) streamed
+  pub reads : does streamed (Act.closed_input rest) t
+  pub served : Result (Unit {0}) ThreadsFault
+  pub told_is : told ≡ threads_told served
 
--- by what is told of serving
-abbrev pub EndsBy : (Result (Unit {0}) RunFault → Type 0) → Ending → Type 0
-EndsBy is_told ending = (told : Result (Unit {0}) RunFault) × is_told told × (ending ≡ ending_of told)
+-- so over the folder, of whose path there are so many shelves, unless memory for these was wanting
+abbrev pub ThreadsShelved : {S F L I O : Type 0} → (S → Act F L I O → S → Type 0) → (O → Option Text) → F → Bool → S
+    → Result (Unit {0}) RunFault → S → Type 0
+ThreadsShelved does contents folder true s told t = ThreadsStreams does s told t
+ThreadsShelved {S} does contents folder false s told t =
+    (left : S) × does s (Act.left folder) left × TellsServed (RefusesAtOnce does contents) left told t
 
--- To serve in memory, or over the folder of a path, ends by how that did. What asks for nothing that the program does ends so, and
--- nothing else does; a version is said, unless it can't be written.
-abbrev pub TaskEndsBy : {F L I : Type 0} → (List ℕ → Result L LockRefusal → Type 0) → (List ℕ → F → Type 0) → DirectoryKind F
-    → (I → Option Text) → Task → Ending → Type 0
-TaskEndsBy locks leads kind remaining task.InMemory ending = EndsBy (IsServedInMemory remaining) ending
-TaskEndsBy locks leads kind remaining (task.InFolder path) ending = EndsBy (IsToldIfFree locks leads kind remaining path.now) ending
-TaskEndsBy locks leads kind remaining (task.InThreads path) ending = EndsBy (IsThreadedIfFree locks leads kind remaining path.now) ending
-TaskEndsBy locks leads kind remaining (task.StreamedInMemory count) ending = EndsBy (λ told. Unit {0}) ending
-TaskEndsBy locks leads kind remaining (task.StreamedInFolder count path) ending = EndsBy (IsThreadedIfFree locks leads kind remaining path.now) ending
-TaskEndsBy locks leads kind remaining task.Version ending = (ending ≡ EndOfInput) ⊎ (ending ≡ Fault)
-TaskEndsBy locks leads kind remaining task.Usage ending = ending ≡ WrongArguments
+abbrev pub ThreadsFolder : {S F L I O : Type 0} → (S → Act F L I O → S → Type 0) → (O → Option Text) → List ℕ → ℕ → F → S
+    → Result (Unit {0}) RunFault → S → Type 0
+ThreadsFolder {S} does contents path count folder s told t =
+    (had : Bool) × (shelved : S) × does s (Act.shelved path count had) shelved × ThreadsShelved does contents folder had shelved told t
 
--- The words behind the program's name ask for a task, and the exit status is that of how the task ended.
-abbrev pub StatusByWords : {F L I : Type 0} → (List ℕ → Result L LockRefusal → Type 0) → (List ℕ → F → Type 0) → DirectoryKind F
-    → (I → Option Text) → List (List ℕ) → ℕ → Type 0
-StatusByWords locks leads kind remaining words status =
-    (task : Task) × (ending : Ending) × (task_told task ≡ asked_of words) × TaskEndsBy locks leads kind remaining task ending
-    × (status ≡ status_of ending)
+-- and over the folder at the path, unless memory for it was wanting
+abbrev pub ThreadsAt : {S F L I O : Type 0} → (S → Act F L I O → S → Type 0) → (O → Option Text) → List ℕ → ℕ → S
+    → Result (Unit {0}) RunFault → S → Type 0
+ThreadsAt {S} {F} does contents path count s told t =
+    (answer : Result F AllocError) × (opened : S) × does s (Act.opened path answer) opened
+    × MatchResult answer (λ folder. ThreadsFolder does contents path count folder opened told t)
+    (λ e. TellsServed (RefusesAtOnce does contents) opened told t)
+
+abbrev pub ThreadsPath : {S F L I O : Type 0} → (S → Act F L I O → S → Type 0) → (I → Option Text) → (O → Option Text) → DirectoryKind F
+    → List ℕ → ℕ → S → Result (Unit {0}) RunFault → S → Type 0
+ThreadsPath does remaining contents kind path count = LocksFirst (ThreadsAt does contents path count) does remaining contents kind path
+
+-- and in memory
+abbrev pub ThreadsMemory : {S F L I O : Type 0} → (S → Act F L I O → S → Type 0) → (O → Option Text) → S → Result (Unit {0}) RunFault → S → Type 0
+ThreadsMemory does contents s told t = ThreadsStreams does s told t ⊎ TellsServed (RefusesAtOnce does contents) s told t

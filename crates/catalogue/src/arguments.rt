@@ -13,7 +13,7 @@ pub(crate) const USAGE: &str =
 pub(crate) const VERSION: &str = "jasminedome 0.1.0";
 
 /// What there is to do.
-#[derive(Clone, Copy, Debug, PartialEq, Eq)]
+#[derive(Clone, Copy)]
 pub(crate) enum Task<'a> {
     /// Serve standard input to standard output, in memory.
     InMemory,

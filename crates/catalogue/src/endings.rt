@@ -6,7 +6,7 @@ use cat_callers::Fault;
 use cat_service::cat_protocol::serving::ServeFault;
 
 /// What ends serving early.
-#[derive(Clone, Copy, Debug, PartialEq, Eq)]
+#[derive(Clone, Copy)]
 pub(crate) enum RunFault {
     /// Another program works over the folder.
     InUse,
@@ -42,7 +42,7 @@ impl RunFault {
 }
 
 /// The ways in which the program ends.
-#[derive(Clone, Copy, Debug, PartialEq, Eq)]
+#[derive(Clone, Copy)]
 pub(crate) enum Ending {
     EndOfInput,
     WrongArguments,

@@ -3,12 +3,13 @@
 
 mod arguments;
 mod endings;
-mod folders;
 mod running;
+mod system;
 mod threading;
 
 use std::process::ExitCode;
+use system::Host;
 
 fn main(rt: HostRuntime) -> ExitCode {
-    running::run(&rt)
+    running::run(&rt, &mut Host(&rt))
 }

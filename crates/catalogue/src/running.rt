@@ -1,105 +1,71 @@
 //! Serves the catalogue's line protocol over the program's standard streams.
-ghost use Rattle.std.specs.Prelude.{◌≡◌, [], map, string_bytes, Err};
+ghost use Rattle.std.specs.Prelude.{◌≡◌, [], Err, map, option_map, string_bytes};
 ghost use Rattle.std.specs.Process.{exit_status};
+ghost use Rattle.cat_base.specs.declared.refusal.Refusal.TheVariants.{Memory};
+ghost use Rattle.cat_model.specs.Served.{refused_text};
 ghost use Rattle.cat_directory.specs.Names.{by_names};
-ghost use Rattle.catalogue.specs.Ended.{ending_of, serving_told, status_of};
-ghost use Rattle.catalogue.specs.Served.{IsRefusedAtOnce, IsServedAt, IsServedOver, IsToldIfFree, IsToldUnlocked, StatusByWords, TaskEndsBy};
+ghost use Rattle.cat_service.specs.cat_protocol.serving.Serving.{IsRefusedAs};
+ghost use Rattle.catalogue.specs.Asked.{task_told};
+ghost use Rattle.catalogue.specs.Ended.{serving_told, status_of};
+ghost use Rattle.catalogue.specs.Runs.{DoesAsked, EndsAs, Runs, asked_by};
+ghost use Rattle.catalogue.specs.Served.{RefusesAtOnce, ServesAt, ServesFolder, ServesMemory, ServesPath, ServesStreams, ServesUnlocked};
 
-use crate::arguments::{Task, USAGE, VERSION};
-use crate::endings::{Ending, RunFault, message};
-use crate::folders::Folders;
-use crate::threading::{Threading, stream_in_memory, thread_folder};
+use crate::arguments::Task;
+use crate::endings::{Ending, RunFault};
+use crate::system::System;
+use crate::threading::{Threading, stream_in_memory, thread_path};
 use cat_base::Refusal;
 use cat_directory::{Directory, LockRefusal, MemoryDirectory, Shelf};
-use cat_service::cat_protocol::sending::send_refused;
+use cat_service::cat_protocol::sending::{flush, send_refused};
 use cat_service::cat_protocol::serving::ServeFault;
-use cat_service::serve;
-use log::sink::Console;
-use log::{Level, Log, Logged, error};
+use cat_service::{Left, serve};
 use std::alloc::Global;
-use std::fs::{File, Files};
-use std::io::{BufWriter, Read, Write};
+use std::io::Write;
 use std::process::ExitCode;
-use std::rt::Env;
 use std::sync::Wait;
 use std::thread::Threads;
 use std::time::Clock;
-use std::{env, io};
 
-/// Replies are gathered up to so many bytes before they go out in one write.
-pub(crate) const GATHERED: usize = 65_536;
-
-/// The words behind the program's name.
-fn words<R: Env + AllocGlobal>(rt: &R) -> io::Result<Vec<String>> {
-    Ok(env::args(rt)?.skip(1).collect(rt.alloc())?)
-}
-
-/// Serves the lines of the reader over the directory, which is closed without a commit.
-fn serve_lines<D: Directory + Shelf + Drop, I: Read, W: Write>(
+/// Serves standard input to standard output over the directory, which is left without a commit. `serve` sends on what the
+/// writer gathers, before each read and at its end.
+fn serve_streams<S: System, D: Directory + Shelf + Drop>(
+    system: &mut S,
     alloc: Global,
     device: D,
-    reader: &mut I,
-    writer: &mut W,
-) -> Result<(), ServeFault>
-    ensures { IsServedOver (by_names D.bytes D.may_leave D.can_fail D.fault_count) I.remaining device result }
+) -> Left<D>
+    ensures { ServesStreams S.does S.Reader.remaining S.Writer.contents (by_names D.bytes D.may_leave D.can_fail D.fault_count)
+        device result.device system.old result.ended system.new }
 {
-    serve(alloc, device, reader, writer).ended
+    let (reader, writer) = system.streams();
+    let mut reader = reader;
+    let mut writer = writer;
+    let left = serve(alloc, device, &mut reader, &mut writer);
+    system.close_input(reader);
+    system.close_output(writer);
+    left
 }
 
-/// Serves standard input to standard output over the directory. `serve` sends on what the writer gathers, before each read and
-/// at its end. Without memory for a buffer the replies go out one by one.
-fn serve_streams<R: AllocGlobal + Input + Print, D: Directory + Shelf + Drop>(
-    rt: &R,
-    device: D,
-) -> Result<(), ServeFault>
-    ensures { IsServedOver (by_names D.bytes D.may_leave D.can_fail D.fault_count) R.Reader.remaining device result }
+/// Writes that memory is wanting. Nothing is read behind it, so it is passed on at once.
+fn refuse<W: Write>(to: &mut W) -> ServeFault
+    ensures { IsRefusedAs (W.contents to.old) (W.contents to.new) (refused_text Memory) result }
 {
-    let reader = &mut rt.reader();
-    match BufWriter::with_capacity(rt.alloc(), GATHERED, io::writer(rt)) {
-        Ok(mut writer) => serve_lines(rt.alloc(), device, reader, &mut writer),
-        Err(_) => serve_lines(rt.alloc(), device, reader, &mut io::writer(rt)),
+    if send_refused(Refusal::Memory, to).is_err() || flush(to).is_err() {
+        ServeFault::Write
+    } else {
+        ServeFault::Schema
     }
 }
 
 /// Says that memory is wanting before a line is read, as `serve` does.
-pub(crate) fn refuse_for_memory<R: Print>(rt: &R) -> ServeFault
-    ensures { IsRefusedAtOnce (Err result) }
+pub(crate) fn refuse_for_memory<S: System>(system: &mut S) -> ServeFault
+    ensures { RefusesAtOnce S.does S.Writer.contents system.old (Err result) system.new }
 {
-    match send_refused(Refusal::Memory, &mut io::writer(rt)) {
-        Ok(()) => ServeFault::Schema,
-        Err(_) => ServeFault::Write,
-    }
-}
-
-/// Serves standard input to standard output over the folder at the path.
-fn serve_at<R: AllocGlobal + Input + Print + Folders>(rt: &R, path: &str) -> Result<(), ServeFault>
-    ensures { IsServedAt (R.leads rt.now) (by_names R.Folder.bytes R.Folder.may_leave R.Folder.can_fail R.Folder.fault_count)
-        R.Reader.remaining path.now result }
-{
-    match rt.folder_at(path) {
-        Ok(folder) => serve_streams(rt, folder),
-        Err(_) => Err(refuse_for_memory(rt)),
-    }
-}
-
-/// Serves standard input to standard output over no folder: the schema line is told what it is over one that can't be listed.
-fn serve_nowhere<R: AllocGlobal + Input + Print + Folders>(rt: &R) -> Result<(), ServeFault>
-    ensures { IsServedAt (R.leads rt.now) (by_names R.Folder.bytes R.Folder.may_leave R.Folder.can_fail R.Folder.fault_count)
-        R.Reader.remaining [] result }
-{
-    serve_at(rt, "")
-}
-
-/// Serves standard input to standard output over the folder at the path, whose lock is kept to the end.
-fn serve_locked<R: AllocGlobal + Input + Print + Folders, L: Drop>(
-    rt: &R,
-    path: &str,
-    _lock: L,
-) -> Result<(), ServeFault>
-    ensures { IsServedAt (R.leads rt.now) (by_names R.Folder.bytes R.Folder.may_leave R.Folder.can_fail R.Folder.fault_count)
-        R.Reader.remaining path.now result }
-{
-    serve_at(rt, path)
+    let (reader, writer) = system.streams();
+    let mut writer = writer;
+    let fault = refuse(&mut writer);
+    system.close_input(reader);
+    system.close_output(writer);
+    fault
 }
 
 /// What ended serving, where the folder isn't in use.
@@ -112,93 +78,148 @@ pub(crate) fn told(served: Result<(), ServeFault>) -> Result<(), RunFault>
     }
 }
 
+/// Serves standard input to standard output over files in memory.
+fn serve_memory<S: System>(system: &mut S, alloc: Global) -> Result<(), RunFault>
+    ensures { ServesMemory S.does S.Reader.remaining S.Writer.contents system.old result system.new }
+{
+    let left = serve_streams(system, alloc, MemoryDirectory::new(alloc));
+    told(left.ended)
+}
+
+/// Serves standard input to standard output over the folder, which is let go as it is left.
+fn serve_folder<S: System>(
+    system: &mut S,
+    alloc: Global,
+    folder: S::Folder,
+) -> Result<(), ServeFault>
+    ensures { ServesFolder S.does S.Reader.remaining S.Writer.contents
+        (by_names S.Folder.bytes S.Folder.may_leave S.Folder.can_fail S.Folder.fault_count) folder system.old result system.new }
+{
+    let Left { device, ended } = serve_streams(system, alloc, folder);
+    system.leave(device);
+    ended
+}
+
+/// Serves standard input to standard output over the folder at the path.
+fn serve_at<S: System>(system: &mut S, alloc: Global, path: &str) -> Result<(), ServeFault>
+    ensures { ServesAt S.does S.Reader.remaining S.Writer.contents
+        (by_names S.Folder.bytes S.Folder.may_leave S.Folder.can_fail S.Folder.fault_count) path.now system.old result system.new }
+{
+    match system.folder_at(path) {
+        Ok(folder) => serve_folder(system, alloc, folder),
+        Err(_) => Err(refuse_for_memory(system)),
+    }
+}
+
+/// Serves standard input to standard output over no folder: the schema line is told what it is over one that can't be listed.
+fn serve_nowhere<S: System>(system: &mut S, alloc: Global) -> Result<(), ServeFault>
+    ensures { ServesAt S.does S.Reader.remaining S.Writer.contents
+        (by_names S.Folder.bytes S.Folder.may_leave S.Folder.can_fail S.Folder.fault_count) [] system.old result system.new }
+{
+    serve_at(system, alloc, "")
+}
+
 /// Serves standard input to standard output where the lock of a folder isn't had, which is told in the reply to the schema line,
 /// and the folder is left as it is.
-pub(crate) fn serve_unlocked<R: AllocGlobal + Input + Print + Folders>(
-    rt: &R,
+pub(crate) fn serve_unlocked<S: System>(
+    system: &mut S,
+    alloc: Global,
     refusal: LockRefusal,
 ) -> Result<(), RunFault>
-    ensures { IsToldUnlocked (R.leads rt.now) (by_names R.Folder.bytes R.Folder.may_leave R.Folder.can_fail R.Folder.fault_count)
-        R.Reader.remaining refusal result }
+    ensures { ServesUnlocked S.does S.Reader.remaining S.Writer.contents
+        (by_names S.Folder.bytes S.Folder.may_leave S.Folder.can_fail S.Folder.fault_count) refusal system.old result system.new }
 {
     match refusal {
-        LockRefusal::InUse => Err(RunFault::in_use(serve_nowhere(rt))),
-        LockRefusal::Device => told(serve_nowhere(rt)),
-        LockRefusal::Memory => told(Err(refuse_for_memory(rt))),
+        LockRefusal::InUse => Err(RunFault::in_use(serve_nowhere(system, alloc))),
+        LockRefusal::Device => told(serve_nowhere(system, alloc)),
+        LockRefusal::Memory => told(Err(refuse_for_memory(system))),
     }
 }
 
-/// Serves standard input to standard output over the folder at the path, once its lock is had. One that can't be listed is told
-/// in the reply to the schema line, and is left as it is.
-fn serve_folder<R: AllocGlobal + Input + Print + Folders>(
-    rt: &R,
-    path: &str,
-) -> Result<(), RunFault>
-    ensures { IsToldIfFree (R.locks rt.now) (R.leads rt.now)
-        (by_names R.Folder.bytes R.Folder.may_leave R.Folder.can_fail R.Folder.fault_count)
-        R.Reader.remaining path.now result }
+/// Serves standard input to standard output over the folder at the path, once its lock is had, which is kept to the end. One that
+/// can't be listed is told in the reply to the schema line, and is left as it is.
+fn serve_path<S: System>(system: &mut S, alloc: Global, path: &str) -> Result<(), RunFault>
+    ensures { ServesPath S.does S.Reader.remaining S.Writer.contents
+        (by_names S.Folder.bytes S.Folder.may_leave S.Folder.can_fail S.Folder.fault_count) path.now system.old result system.new }
 {
-    match rt.lock(path) {
-        Ok(lock) => told(serve_locked(rt, path, lock)),
-        Err(refusal) => serve_unlocked(rt, refusal),
+    match system.lock(path) {
+        Ok(lock) => {
+            let served = serve_at(system, alloc, path);
+            system.unlock(lock);
+            told(served)
+        }
+        Err(refusal) => serve_unlocked(system, alloc, refusal),
     }
-}
-
-/// Says on standard error why serving ended early.
-fn report<R: Eprint>(rt: &R, fault: RunFault) {
-    let rt = Logged::new(rt, Level::Error, Console(rt));
-    error!(rt; target: "catalogue", "{}", message(fault));
 }
 
 /// How the program ends that served so. A fault is told on standard error.
-fn ending_after<R: Eprint>(rt: &R, served: Result<(), RunFault>) -> Ending
-    ensures { result ≡ ending_of served }
+fn ending_after<S: System>(system: &mut S, served: Result<(), RunFault>) -> Ending
+    ensures { EndsAs S.does system.old served result system.new }
 {
-    if let Err(fault) = served {
-        report(rt, fault);
+    match served {
+        Ok(()) => Ending::of(Ok(())),
+        Err(fault) => {
+            system.report(fault);
+            Ending::of(Err(fault))
+        }
     }
-    Ending::of(served)
 }
 
-/// Does what the words ask for.
-fn do_task<
-    R: AllocGlobal
-        + Input
-        + Print
-        + Eprint
-        + Files<File = File, Dir: Send>
-        + Clone
-        + Drop
-        + Send
-        + Sync
-        + Threads
-        + Wait
-        + Clock
-        + Folders,
->(rt: &R, task: Task<'_>) -> Ending
-    ensures { TaskEndsBy (R.locks rt.now) (R.leads rt.now)
-        (by_names R.Folder.bytes R.Folder.may_leave R.Folder.can_fail R.Folder.fault_count)
-        R.Reader.remaining task.entry result }
+/// Does the task.
+fn do_task<S: System, R: AllocGlobal + Clone + Drop + Send + Sync + Threads + Wait + Clock>(
+    rt: &R,
+    system: &mut S,
+    task: Task<'_>,
+) -> Ending
+    ensures { DoesAsked S.does S.Reader.remaining S.Writer.contents
+        (by_names S.Folder.bytes S.Folder.may_leave S.Folder.can_fail S.Folder.fault_count)
+        (task_told task.entry) system.old result system.new }
 {
     match task {
         Task::InMemory => {
-            let served = serve_streams(rt, MemoryDirectory::new(rt.alloc()));
-            ending_after(rt, told(served))
+            let served = serve_memory(system, rt.alloc());
+            ending_after(system, served)
         }
-        Task::InFolder(path) => ending_after(rt, serve_folder(rt, path)),
-        Task::InThreads(path) => ending_after(rt, thread_folder(rt, path, Threading::Each)),
-        Task::StreamedInMemory(count) => ending_after(rt, stream_in_memory(rt, count)),
+        Task::InFolder(path) => {
+            let served = serve_path(system, rt.alloc(), path);
+            ending_after(system, served)
+        }
+        Task::InThreads(path) => {
+            let served = thread_path(rt, system, path, Threading::Each);
+            ending_after(system, served)
+        }
+        Task::StreamedInMemory(count) => {
+            let served = stream_in_memory(rt, system, count);
+            ending_after(system, served)
+        }
         Task::StreamedInFolder(count, path) => {
-            ending_after(rt, thread_folder(rt, path, Threading::By(count)))
+            let served = thread_path(rt, system, path, Threading::By(count));
+            ending_after(system, served)
         }
-        Task::Version => match rt.println(VERSION) {
+        Task::Version => match system.tell_version() {
             Ok(()) => Ending::EndOfInput,
-            Err(_) => ending_after(rt, Err(RunFault::Serving(ServeFault::Write))),
+            Err(_) => ending_after(system, Err(RunFault::Serving(ServeFault::Write))),
         },
         Task::Usage => {
-            let _ = rt.eprintln(USAGE);
+            system.tell_usage();
             Ending::WrongArguments
         }
+    }
+}
+
+/// Does what the words behind the program's name ask for. Words that can't be read ask for nothing that the program does.
+fn do_asked<S: System, R: AllocGlobal + Clone + Drop + Send + Sync + Threads + Wait + Clock>(
+    rt: &R,
+    system: &mut S,
+    words: Option<Vec<String>>,
+) -> Ending
+    ensures { DoesAsked S.does S.Reader.remaining S.Writer.contents
+        (by_names S.Folder.bytes S.Folder.may_leave S.Folder.can_fail S.Folder.fault_count)
+        (asked_by (option_map (λ words. map string_bytes words.items) words)) system.old result system.new }
+{
+    match words {
+        Some(words) => do_task(rt, system, Task::asked_by(words.as_slice())),
+        None => do_task(rt, system, Task::Usage),
     }
 }
 
@@ -209,51 +230,16 @@ fn exit(ending: Ending) -> ExitCode
     ExitCode::from(ending.status())
 }
 
-/// Does what the words behind the program's name ask for, and says the exit status.
-fn run_asked<
-    R: AllocGlobal
-        + Input
-        + Print
-        + Eprint
-        + Files<File = File, Dir: Send>
-        + Clone
-        + Drop
-        + Send
-        + Sync
-        + Threads
-        + Wait
-        + Clock
-        + Folders,
->(rt: &R, words: &[String]) -> ExitCode
-    ensures { StatusByWords (R.locks rt.now) (R.leads rt.now)
-        (by_names R.Folder.bytes R.Folder.may_leave R.Folder.can_fail R.Folder.fault_count)
-        R.Reader.remaining (map string_bytes words.now) (exit_status result) }
-{
-    exit(do_task(rt, Task::asked_by(words)))
-}
-
 /// Runs the program, and says the exit status: 0 at the end of input, 1 where the arguments ask for nothing that it does, 2
 /// where the schema line is refused, as it is where another program works over the folder, 3 where a read or a write failed, 4
-/// where a thread couldn't be started. Words that can't be read ask for nothing that the program does. A folder is closed
-/// without a commit.
-pub fn run<
-    R: Env
-        + AllocGlobal
-        + Input
-        + Print
-        + Eprint
-        + Files<File = File, Dir: Send>
-        + Clone
-        + Drop
-        + Send
-        + Sync
-        + Threads
-        + Wait
-        + Clock
-        + Folders,
->(rt: &R) -> ExitCode {
-    match words(rt) {
-        Ok(words) => run_asked(rt, words.as_slice()),
-        Err(_) => exit(do_task(rt, Task::Usage)),
-    }
+/// where a thread couldn't be started. A folder is closed without a commit.
+pub(crate) fn run<S: System, R: AllocGlobal + Clone + Drop + Send + Sync + Threads + Wait + Clock>(
+    rt: &R,
+    system: &mut S,
+) -> ExitCode
+    ensures { Runs S.does S.Reader.remaining S.Writer.contents
+        (by_names S.Folder.bytes S.Folder.may_leave S.Folder.can_fail S.Folder.fault_count) system.old (exit_status result) system.new }
+{
+    let words = system.words();
+    exit(do_asked(rt, system, words))
 }

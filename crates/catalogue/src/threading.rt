@@ -1,16 +1,15 @@
 //! Serves sessions in threads over the program's standard streams.
+ghost use Rattle.std.specs.Prelude.{◌≡◌};
 ghost use Rattle.cat_directory.specs.Names.{by_names};
-ghost use Rattle.catalogue.specs.Served.{IsThreadedIfFree};
+ghost use Rattle.catalogue.specs.Ended.{shelf_count_of, threads_told};
+ghost use Rattle.catalogue.specs.Served.{ThreadsAt, ThreadsFolder, ThreadsMemory, ThreadsPath, ThreadsStreams};
 
 use crate::endings::RunFault;
-use crate::folders::Folders;
-use crate::running::{GATHERED, refuse_for_memory, serve_unlocked, told};
+use crate::running::{refuse_for_memory, serve_unlocked, told};
+use crate::system::System;
 use cat_callers::{Fault, MAX_THREADS, SharedMemory, serve_stream, serve_threads};
-use cat_directory::{Directory, Folder, FolderShelf, Shelf};
+use cat_directory::{Directory, Shelf};
 use std::alloc::AllocError;
-use std::fs::{File, Files};
-use std::io;
-use std::io::BufWriter;
 use std::sync::Wait;
 use std::thread::Threads;
 use std::time::Clock;
@@ -24,93 +23,130 @@ pub(crate) enum Threading {
     By(usize),
 }
 
-/// So many shelves of the folder at the path.
-fn shelves_at<R: AllocGlobal + Files + Clone + Drop>(
-    rt: &R,
-    path: &str,
-    count: usize,
-) -> Result<Vec<FolderShelf<R>>, AllocError> {
-    let mut shelves = Vec::with_capacity(rt.alloc(), count)?;
-    for _ in 0..count {
-        shelves.push(FolderShelf::at(rt.clone()?, rt.alloc(), path)?)?;
+impl Threading {
+    /// How many shelves they need.
+    fn shelf_count(self) -> usize
+        ensures { result ≡ shelf_count_of self }
+    {
+        match self {
+            Threading::Each => MAX_THREADS,
+            Threading::By(count) => count,
+        }
     }
-    Ok(shelves)
-}
-
-/// The folder at the path, and so many shelves of it.
-fn files_at<R: AllocGlobal + Files + Clone + Drop>(
-    rt: &R,
-    path: &str,
-    count: usize,
-) -> Result<(Folder<R>, Vec<FolderShelf<R>>), AllocError> {
-    let folder = Folder::at(rt.clone()?, rt.alloc(), path)?;
-    Ok((folder, shelves_at(rt, path, count)?))
 }
 
 /// What ended serving, if it didn't end with the input.
-fn ended(served: Result<(), Fault>) -> Result<(), RunFault> {
+fn ended(served: Result<(), Fault>) -> Result<(), RunFault>
+    ensures { result ≡ threads_told served }
+{
     match served {
         Ok(()) => Ok(()),
         Err(fault) => Err(RunFault::of_threads(fault)),
     }
 }
 
-/// Answers standard input to standard output over the folder at the path, each session in a thread of its own.
-fn each_at<
-    R: AllocGlobal
-        + Input
-        + Print
-        + Files<File = File, Dir: Send>
-        + Clone
-        + Drop
-        + Send
-        + Sync
-        + Threads
-        + Wait
-        + Clock,
->(rt: &R, path: &str) -> Result<(), RunFault> {
-    let Ok((folder, shelves)) = files_at(rt, path, MAX_THREADS) else {
-        return told(Err(refuse_for_memory(rt)));
-    };
-    let reader = &mut rt.reader();
-    let served = match BufWriter::with_capacity(rt.alloc(), GATHERED, io::writer(rt)) {
-        Ok(mut writer) => serve_threads(rt, rt.alloc(), folder, shelves, reader, &mut writer),
-        Err(_) => serve_threads(rt, rt.alloc(), folder, shelves, reader, &mut io::writer(rt)),
-    };
-    ended(served)
-}
-
 /// Answers standard input to standard output over the directory, by as many threads as there are shelves.
 fn stream<
-    R: AllocGlobal + Input + Print + Sync + Threads + Wait + Clock,
+    S: System,
     D: Directory + Shelf + Drop + Send,
-    S: Shelf + Drop + Send,
->(rt: &R, device: D, shelves: Vec<S>) -> Result<(), RunFault> {
-    let reader = &mut rt.reader();
-    let served = match BufWriter::with_capacity(rt.alloc(), GATHERED, io::writer(rt)) {
-        Ok(writer) => serve_stream(rt, rt.alloc(), device, shelves, reader, writer),
-        Err(_) => serve_stream(rt, rt.alloc(), device, shelves, reader, io::writer(rt)),
-    };
+    F: Shelf + Drop + Send,
+    R: AllocGlobal + Sync + Threads + Wait + Clock,
+>(rt: &R, system: &mut S, device: D, shelves: Vec<F>) -> Result<(), RunFault>
+    ensures { ThreadsStreams S.does system.old result system.new }
+{
+    let (reader, writer) = system.streams();
+    let mut reader = reader;
+    let served = serve_stream(rt, rt.alloc(), device, shelves, &mut reader, writer);
+    system.close_input(reader);
     ended(served)
 }
 
-/// Answers standard input to standard output over the folder at the path, by so many threads.
-fn stream_at<
-    R: AllocGlobal
-        + Input
-        + Print
-        + Files<File = File, Dir: Send>
-        + Clone
-        + Drop
-        + Send
-        + Sync
-        + Threads
-        + Wait
-        + Clock,
->(rt: &R, path: &str, count: usize) -> Result<(), RunFault> {
-    match files_at(rt, path, count) {
-        Ok((folder, shelves)) => stream(rt, folder, shelves),
-        Err(_) => told(Err(refuse_for_memory(rt))),
+/// Answers standard input to standard output over the directory, each session in a thread of its own.
+fn answer_each<
+    S: System,
+    D: Directory + Shelf + Drop + Send,
+    F: Shelf + Drop + Send,
+    R: AllocGlobal + Sync + Threads + Wait + Clock,
+>(rt: &R, system: &mut S, device: D, shelves: Vec<F>) -> Result<(), RunFault>
+    ensures { ThreadsStreams S.does system.old result system.new }
+{
+    let (reader, writer) = system.streams();
+    let mut reader = reader;
+    let mut writer = writer;
+    let served = serve_threads(rt, rt.alloc(), device, shelves, &mut reader, &mut writer);
+    system.close_input(reader);
+    ended(served)
+}
+
+/// Answers standard input to standard output over the folder, of which these are shelves.
+fn thread_shelved<S: System, R: AllocGlobal + Sync + Threads + Wait + Clock>(
+    rt: &R,
+    system: &mut S,
+    folder: S::Folder,
+    shelves: Vec<S::Shelf>,
+    threading: Threading,
+) -> Result<(), RunFault>
+    ensures { ThreadsStreams S.does system.old result system.new }
+{
+    match threading {
+        Threading::Each => answer_each(rt, system, folder, shelves),
+        Threading::By(_) => stream(rt, system, folder, shelves),
+    }
+}
+
+/// Answers standard input to standard output over the folder at the path.
+fn thread_folder<S: System, R: AllocGlobal + Sync + Threads + Wait + Clock>(
+    rt: &R,
+    system: &mut S,
+    path: &str,
+    folder: S::Folder,
+    threading: Threading,
+) -> Result<(), RunFault>
+    ensures { ThreadsFolder S.does S.Writer.contents path.now (shelf_count_of threading) folder system.old result system.new }
+{
+    match system.shelves_at(path, threading.shelf_count()) {
+        Ok(shelves) => thread_shelved(rt, system, folder, shelves, threading),
+        Err(_) => {
+            system.leave(folder);
+            told(Err(refuse_for_memory(system)))
+        }
+    }
+}
+
+/// Answers standard input to standard output over the folder at the path, unless memory for it is wanting.
+fn thread_at<S: System, R: AllocGlobal + Sync + Threads + Wait + Clock>(
+    rt: &R,
+    system: &mut S,
+    path: &str,
+    threading: Threading,
+) -> Result<(), RunFault>
+    ensures { ThreadsAt S.does S.Writer.contents path.now (shelf_count_of threading) system.old result system.new }
+{
+    match system.folder_at(path) {
+        Ok(folder) => thread_folder(rt, system, path, folder, threading),
+        Err(_) => told(Err(refuse_for_memory(system))),
+    }
+}
+
+/// Answers standard input to standard output over the folder at the path, once its lock is had, which is kept to the end. One that
+/// can't be listed is told in the reply to the schema line, and is left as it is.
+pub(crate) fn thread_path<S: System, R: AllocGlobal + Sync + Threads + Wait + Clock>(
+    rt: &R,
+    system: &mut S,
+    path: &str,
+    threading: Threading,
+) -> Result<(), RunFault>
+    ensures { ThreadsPath S.does S.Reader.remaining S.Writer.contents
+        (by_names S.Folder.bytes S.Folder.may_leave S.Folder.can_fail S.Folder.fault_count)
+        path.now (shelf_count_of threading) system.old result system.new }
+{
+    match system.lock(path) {
+        Ok(lock) => {
+            let served = thread_at(rt, system, path, threading);
+            system.unlock(lock);
+            served
+        }
+        Err(refusal) => serve_unlocked(system, rt.alloc(), refusal),
     }
 }
 
@@ -129,57 +165,13 @@ fn files_in_memory<R: AllocGlobal + Clone + Drop + Wait>(
 
 /// Answers standard input to standard output in memory, by so many threads.
 pub(crate) fn stream_in_memory<
-    R: AllocGlobal + Input + Print + Clone + Drop + Send + Sync + Threads + Wait + Clock,
->(rt: &R, count: usize) -> Result<(), RunFault> {
-    match files_in_memory(rt, count) {
-        Ok((files, shelves)) => stream(rt, files, shelves),
-        Err(_) => told(Err(refuse_for_memory(rt))),
-    }
-}
-
-/// Answers in threads over the folder at the path, whose lock is kept to the end.
-fn thread_locked<
-    R: AllocGlobal
-        + Input
-        + Print
-        + Files<File = File, Dir: Send>
-        + Clone
-        + Drop
-        + Send
-        + Sync
-        + Threads
-        + Wait
-        + Clock,
-    L: Drop,
->(rt: &R, path: &str, threading: Threading, _lock: L) -> Result<(), RunFault> {
-    match threading {
-        Threading::Each => each_at(rt, path),
-        Threading::By(count) => stream_at(rt, path, count),
-    }
-}
-
-/// Answers in threads over the folder at the path, once its lock is had. One that can't be listed is told in the reply to the
-/// schema line, and is left as it is.
-pub(crate) fn thread_folder<
-    R: AllocGlobal
-        + Input
-        + Print
-        + Files<File = File, Dir: Send>
-        + Clone
-        + Drop
-        + Send
-        + Sync
-        + Threads
-        + Wait
-        + Clock
-        + Folders,
->(rt: &R, path: &str, threading: Threading) -> Result<(), RunFault>
-    ensures { IsThreadedIfFree (R.locks rt.now) (R.leads rt.now)
-        (by_names R.Folder.bytes R.Folder.may_leave R.Folder.can_fail R.Folder.fault_count)
-        R.Reader.remaining path.now result }
+    S: System,
+    R: AllocGlobal + Clone + Drop + Send + Sync + Threads + Wait + Clock,
+>(rt: &R, system: &mut S, count: usize) -> Result<(), RunFault>
+    ensures { ThreadsMemory S.does S.Writer.contents system.old result system.new }
 {
-    match rt.lock(path) {
-        Ok(lock) => thread_locked(rt, path, threading, lock),
-        Err(refusal) => serve_unlocked(rt, refusal),
+    match files_in_memory(rt, count) {
+        Ok((files, shelves)) => stream(rt, system, files, shelves),
+        Err(_) => told(Err(refuse_for_memory(system))),
     }
 }
