@@ -1,2 +1,4 @@
+pub mod Acts
 pub mod Asked
 pub mod Ended
+pub mod Runs

@@ -6,7 +6,7 @@ ghost use Rattle.catalogue_check.specs.Asked.{asked_of, is_drop_word, task_told}
 pub(crate) const USAGE: &str = "usage: catalogue_check [--drop-torn] FOLDER";
 
 /// What there is to do with the folder at the path.
-#[derive(Clone, Copy, Debug, PartialEq, Eq)]
+#[derive(Clone, Copy)]
 pub(crate) enum Task<'a> {
     /// Judge it.
     Judge(&'a str),

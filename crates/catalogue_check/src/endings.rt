@@ -5,7 +5,7 @@ ghost use Rattle.catalogue_check.specs.Ended.{ending_of, status_of};
 use cat_check::{Checked, Verdict};
 
 /// The ways in which the program ends.
-#[derive(Clone, Copy, Debug, PartialEq, Eq)]
+#[derive(Clone, Copy)]
 pub(crate) enum Ending {
     /// The newest commit is whole.
     Whole,

@@ -4,11 +4,13 @@
 
 mod arguments;
 mod endings;
-mod folders;
+mod news;
 mod running;
+mod system;
 
 use std::process::ExitCode;
 
 fn main(rt: HostRuntime) -> ExitCode {
-    running::run(&rt)
+    let mut system = rt;
+    running::run(&mut system)
 }

@@ -1,165 +1,171 @@
-//! Judges the folder that the arguments name, and tells what is found on standard output.
-ghost use Rattle.std.specs.Prelude.{◌≡◌, IfOk};
+//! Judges the folder that the arguments name, and tells what is found.
+ghost use Rattle.std.specs.Prelude.{◌≡◌, map, option_map, string_bytes};
 ghost use Rattle.std.specs.Process.{exit_status};
-ghost use Rattle.catalogue_check.specs.declared.endings.Ending.{Ending};
-ghost use Rattle.catalogue_check.specs.Ended.{CheckEndsBy, DropsAt, EndsAsAsked, EndsBy, JudgesAt, ending_told, status_of};
+ghost use Rattle.cat_directory.specs.Frames.{OnlyReads};
+ghost use Rattle.catalogue_check.specs.Asked.{task_told};
+ghost use Rattle.catalogue_check.specs.Ended.{status_of};
+ghost use Rattle.catalogue_check.specs.Runs.{ChecksAsked, DropsAt, DropsIn, DropsLocked, EndsJudged, Judges, JudgesAt, JudgesShared, RunsCheck, ShowsFound, checks_asked};
 
-use crate::arguments::{Task, USAGE};
+use crate::arguments::Task;
 use crate::endings::Ending;
-use crate::folders::Folders;
+use crate::news::News;
+use crate::system::System;
 use cat_base::Refusal;
-use cat_check::{Checked, check, drop_torn, tell, tell_standing};
-use cat_directory::{Directory, FolderLock, LockRefusal, Shelf};
-use std::fs::{File, Files};
-use std::io::{BufWriter, Write};
+use cat_check::{check, drop_torn};
+use cat_directory::LockRefusal;
 use std::process::ExitCode;
-use std::rt::Env;
-use std::{env, io};
 
-/// The words behind the program's name.
-fn words<R: Env + AllocGlobal>(rt: &R) -> io::Result<Vec<String>> {
-    Ok(env::args(rt)?.skip(1).collect(rt.alloc())?)
-}
-
-/// Tells what is found, gathered into few writes. What can't be written is lost, and the exit status says what it says.
-fn show<R: AllocGlobal + Print>(rt: &R, checked: &Checked) -> io::Result<()> {
-    let mut out = BufWriter::new(rt.alloc(), io::writer(rt))?;
-    tell(&mut out, checked)?;
-    out.flush()
-}
-
-/// Judges the folder, and tells what is found.
-fn judge<R: AllocGlobal + Print, D: Directory + Shelf>(
-    rt: &R,
-    folder: &mut D,
+/// Checks the folder, and tells what is found.
+fn tell_found<S: AllocGlobal + System>(
+    system: &mut S,
+    folder: &mut S::Folder,
 ) -> Result<Ending, Refusal>
-    ensures { IfOk result (EndsBy (D.bytes folder.old) (D.can_fail folder.old)) }
+    ensures found { ShowsFound S.does (S.Folder.bytes folder.old) (S.Folder.can_fail folder.old) system.old result system.new }
+    ensures frame { OnlyReads S.Folder.bytes S.Folder.may_leave S.Folder.can_fail folder.old folder.new }
 {
-    let checked = check(rt.alloc(), folder)?;
-    let _ = show(rt, &checked);
+    let checked = check(system.alloc(), folder)?;
+    system.show(&checked);
     Ok(Ending::of(&checked))
 }
 
-/// Says on standard error that a program works over the folder, which may so be changed while it is judged.
-fn tell_use<R: Eprint>(rt: &R) {
-    let _ = eprintln!(rt; "catalogue_check: folder in use");
+/// Judges the folder, which is left as it is.
+fn judge<S: AllocGlobal + System>(system: &mut S, folder: S::Folder) -> Result<Ending, Refusal>
+    ensures { Judges S.does S.Folder.bytes S.Folder.may_leave S.Folder.can_fail folder system.old result system.new }
+{
+    let mut folder = folder;
+    let judged = tell_found(system, &mut folder);
+    system.leave(folder);
+    judged
 }
 
-/// Asks whether a program works over the folder at the path, and says so. The share of the lock that tells it is given back at
-/// once: to judge keeps no program from the folder.
-fn ask_use<R: AllocGlobal + Eprint + Files<File = File>>(
-    rt: &R,
+/// Judges the folder at the path.
+fn judge_at<S: AllocGlobal + System>(system: &mut S, path: &str) -> Result<Ending, Refusal>
+    ensures { JudgesAt S.does S.Folder.bytes S.Folder.may_leave S.Folder.can_fail path.now system.old result system.new }
+{
+    match system.folder_at(path) {
+        Ok(folder) => judge(system, folder),
+        Err(_) => Err(Refusal::Memory),
+    }
+}
+
+/// Judges the folder at the path, of whose lock who asked for a share was answered so; and says whether a program works over it. The
+/// share is given back at once: to judge keeps no program from the folder.
+fn judge_shared<S: AllocGlobal + System>(
+    system: &mut S,
     path: &str,
-) -> Result<(), Refusal> {
-    match FolderLock::share(rt, rt.alloc(), path) {
-        Ok(_) | Err(LockRefusal::Device) => Ok(()),
-        Err(LockRefusal::InUse) => {
-            tell_use(rt);
-            Ok(())
+    answer: Result<S::Lock, LockRefusal>,
+) -> Result<Ending, Refusal>
+    ensures { JudgesShared S.does S.Folder.bytes S.Folder.may_leave S.Folder.can_fail path.now answer system.old result system.new }
+{
+    match answer {
+        Ok(share) => {
+            system.unlock(share);
+            judge_at(system, path)
         }
+        Err(LockRefusal::InUse) => {
+            system.say(News::InUse);
+            judge_at(system, path)
+        }
+        Err(LockRefusal::Device) => judge_at(system, path),
         Err(LockRefusal::Memory) => Err(Refusal::Memory),
     }
 }
 
-/// Judges the folder at the path.
-fn judge_at<R: AllocGlobal + Print + Folders>(rt: &R, path: &str) -> Result<Ending, Refusal>
-    ensures { IfOk result (JudgesAt (R.leads rt.now) R.Folder.bytes R.Folder.can_fail path.now) }
+/// Deletes the file of a torn commit over a whole one in the folder, tells what was dropped, and judges what is there then.
+fn drop_in<S: AllocGlobal + System>(system: &mut S, folder: S::Folder) -> Result<Ending, Refusal>
+    ensures { DropsIn S.does S.Folder.bytes S.Folder.may_leave S.Folder.can_fail folder system.old result system.new }
 {
-    let mut folder = rt.folder_at(path)?;
-    judge(rt, &mut folder)
+    let mut folder = folder;
+    match drop_torn(system.alloc(), &mut folder) {
+        Ok(standing) => {
+            system.show_standing(standing);
+            judge(system, folder)
+        }
+        Err(refusal) => {
+            system.leave(folder);
+            Err(refusal)
+        }
+    }
 }
 
-/// Judges the folder at the path, and says whether a program works over it.
-fn judge_asked<R: AllocGlobal + Print + Eprint + Files<File = File> + Folders>(
-    rt: &R,
-    path: &str,
-) -> Result<Ending, Refusal>
-    ensures { IfOk result (JudgesAt (R.leads rt.now) R.Folder.bytes R.Folder.can_fail path.now) }
+/// Drops so in the folder at the path.
+fn drop_at<S: AllocGlobal + System>(system: &mut S, path: &str) -> Result<Ending, Refusal>
+    ensures { DropsAt S.does S.Folder.bytes S.Folder.may_leave S.Folder.can_fail path.now system.old result system.new }
 {
-    ask_use(rt, path)?;
-    judge_at(rt, path)
+    match system.folder_at(path) {
+        Ok(folder) => drop_in(system, folder),
+        Err(_) => Err(Refusal::Memory),
+    }
 }
 
-/// Deletes the file of a torn commit over a whole one in the folder at the path, whose lock is kept to the end, and judges what
-/// is there then.
-fn drop_locked<R: AllocGlobal + Print + Folders, F: Drop>(
-    rt: &R,
+/// Drops so in the folder at the path, for whose lock who asked was answered so; the lock is kept to the end. Where a program works
+/// over the folder nothing is deleted, and it is judged.
+fn drop_locked<S: AllocGlobal + System>(
+    system: &mut S,
     path: &str,
-    _lock: FolderLock<F>,
+    answer: Result<S::Lock, LockRefusal>,
 ) -> Result<Ending, Refusal>
-    ensures { IfOk result (DropsAt (R.leads rt.now) R.Folder.bytes R.Folder.can_fail path.now) }
+    ensures { DropsLocked S.does S.Folder.bytes S.Folder.may_leave S.Folder.can_fail path.now answer system.old result system.new }
 {
-    let mut folder = rt.folder_at(path)?;
-    let standing = drop_torn(rt.alloc(), &mut folder)?;
-    let _ = tell_standing(&mut io::writer(rt), standing);
-    judge(rt, &mut folder)
-}
-
-/// Deletes nothing in the folder at the path, over which a program works, and judges it.
-fn drop_nothing<R: AllocGlobal + Print + Eprint + Folders>(
-    rt: &R,
-    path: &str,
-) -> Result<Ending, Refusal>
-    ensures { IfOk result (JudgesAt (R.leads rt.now) R.Folder.bytes R.Folder.can_fail path.now) }
-{
-    tell_use(rt);
-    let _ = rt.println("dropped nothing: a program works over the folder");
-    judge_at(rt, path)
-}
-
-/// Deletes the file of a torn commit over a whole one in the folder at the path, unless a program works over it, and judges
-/// what is there then.
-fn drop_at<R: AllocGlobal + Print + Eprint + Files<File = File> + Folders>(
-    rt: &R,
-    path: &str,
-) -> Result<Ending, Refusal>
-    ensures { IfOk result (DropsAt (R.leads rt.now) R.Folder.bytes R.Folder.can_fail path.now) }
-{
-    match FolderLock::take(rt, rt.alloc(), path) {
-        Ok(lock) => drop_locked(rt, path, lock),
-        Err(LockRefusal::InUse) => drop_nothing(rt, path),
+    match answer {
+        Ok(lock) => {
+            let judged = drop_at(system, path);
+            system.unlock(lock);
+            judged
+        }
+        Err(LockRefusal::InUse) => {
+            system.say(News::InUse);
+            system.say(News::NotDropped);
+            judge_at(system, path)
+        }
         Err(LockRefusal::Device) => Err(Refusal::Device),
         Err(LockRefusal::Memory) => Err(Refusal::Memory),
     }
 }
 
-/// How the program ends that judged so. A refusal is told on standard error.
-fn ending_after<R: Eprint>(rt: &R, judged: Result<Ending, Refusal>) -> Ending
-    ensures { result ≡ ending_told judged }
+/// How the program ends that judged so. A refusal is told.
+fn ending_after<S: System>(system: &mut S, judged: Result<Ending, Refusal>) -> Ending
+    ensures { EndsJudged S.does system.old judged result system.new }
 {
     match judged {
         Ok(ending) => ending,
         Err(refusal) => {
-            let _ = eprintln!(rt; "catalogue_check: {refusal}");
+            system.say(News::Refused(refusal));
             Ending::Unjudged
         }
     }
 }
 
-/// Does what the words ask for.
-fn do_task<R: AllocGlobal + Print + Eprint + Files<File = File> + Folders>(
-    rt: &R,
-    task: Task<'_>,
-) -> Ending
-    ensures { CheckEndsBy (R.leads rt.now) R.Folder.bytes R.Folder.can_fail task.entry result }
+/// Does the task.
+fn do_task<S: AllocGlobal + System>(system: &mut S, task: Task<'_>) -> Ending
+    ensures { ChecksAsked S.does S.Folder.bytes S.Folder.may_leave S.Folder.can_fail (task_told task.entry) system.old result system.new }
 {
     match task {
-        Task::Judge(path) => ending_after(rt, judge_asked(rt, path)),
-        Task::DropTorn(path) => ending_after(rt, drop_at(rt, path)),
+        Task::Judge(path) => {
+            let answer = system.share(path);
+            let judged = judge_shared(system, path, answer);
+            ending_after(system, judged)
+        }
+        Task::DropTorn(path) => {
+            let answer = system.lock(path);
+            let judged = drop_locked(system, path, answer);
+            ending_after(system, judged)
+        }
         Task::Usage => {
-            let _ = rt.eprintln(USAGE);
+            system.say(News::Usage);
             Ending::Unjudged
         }
     }
 }
 
-/// Does what the arguments ask for. Words that can't be read ask for nothing that the program does.
-fn do_asked<R: Env + AllocGlobal + Print + Eprint + Files<File = File> + Folders>(rt: &R) -> Ending
-    ensures { EndsAsAsked (R.leads rt.now) R.Folder.bytes R.Folder.can_fail result }
+/// Does what the words ask for. Words that can't be read ask for nothing that the program does.
+fn do_asked<S: AllocGlobal + System>(system: &mut S, words: Option<Vec<String>>) -> Ending
+    ensures { ChecksAsked S.does S.Folder.bytes S.Folder.may_leave S.Folder.can_fail
+        (checks_asked (option_map (λ words. map string_bytes words.items) words)) system.old result system.new }
 {
-    match words(rt) {
-        Ok(words) => do_task(rt, Task::asked_by(words.as_slice())),
-        Err(_) => do_task(rt, Task::Usage),
+    match words {
+        Some(words) => do_task(system, Task::asked_by(words.as_slice())),
+        None => do_task(system, Task::Usage),
     }
 }
 
@@ -170,12 +176,11 @@ fn exit(ending: Ending) -> ExitCode
     ExitCode::from(ending.status())
 }
 
-/// Runs the program, and says the exit status: 0 where the newest commit is whole, 1 where it isn't or there is none, 2 where
+/// RunsCheck the program, and says the exit status: 0 where the newest commit is whole, 1 where it isn't or there is none, 2 where
 /// the arguments are wrong or the folder can't be read.
-pub(crate) fn run<R: Env + AllocGlobal + Print + Eprint + Files<File = File> + Folders>(
-    rt: &R,
-) -> ExitCode
-    ensures { (ending : Ending) × EndsAsAsked (R.leads rt.now) R.Folder.bytes R.Folder.can_fail ending × (exit_status result ≡ status_of ending) }
+pub(crate) fn run<S: AllocGlobal + System>(system: &mut S) -> ExitCode
+    ensures { RunsCheck S.does S.Folder.bytes S.Folder.may_leave S.Folder.can_fail system.old (exit_status result) system.new }
 {
-    exit(do_asked(rt))
+    let words = system.words();
+    exit(do_asked(system, words))
 }
