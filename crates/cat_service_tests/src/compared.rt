@@ -89,7 +89,7 @@ fn has_sets(world: &mut World<MemoryDirectory>) -> bool {
         session: 0,
         command: Command::Stat,
     };
-    match world.step(&line).answer {
+    match &world.step(&line).answer {
         Ok(Told::News(News::State(stat))) => stat.cached > 0,
         _ => false,
     }
