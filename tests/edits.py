@@ -4,13 +4,13 @@
 usage: tests/edits.py [--anew] [--as-they-stand] [--lanes N] [--only LETTERS] [CRATE..]
 
 All edits of a crate go into one copy of it, and one check proves the functions that they change; of two edits of one function
-the second goes into a further check, which takes from the one before what is the same. A caller's proof rests on nothing of a
+the second changes a copy of it, which has its contract and its proof under another name. A caller's proof rests on nothing of a
 callee but its contract, so every other function of the copy is left with that alone: its body is taken out, and a hole stands
 for its proof. An edit is refused where its function is not proved, and for what it does: a goal of its own function is left open,
 or an answer to one no longer proves it. Where nothing but names that are gone tells against it, it shows nothing of the contract,
-and counts as not refused. What isn't refused beside such functions is tried again in a copy that has each with its body and its
-proof, and what comes of that stands. An edit with a line '# compiler: TEXT' is one that must not compile: the compiler has to
-refuse it by an error with this text.
+and counts as not refused. The goals in an edit's line '# leave: GOAL..' are left out: others refuse it sooner. What isn't refused
+beside such functions is tried again in a copy that has each with its body and its proof, and what comes of that stands. An edit
+with a line '# compiler: TEXT' is one that must not compile: the compiler has to refuse it by an error with this text.
 
 A crate is tried over the libraries below it as `rt ci` built and kept them on this machine, or else over those that `rt lib`
 builds. What an edit came to is kept beside the kit by the checksums of all that it stands on, and not tried again before one
@@ -37,7 +37,7 @@ from pathlib import Path
 sys.path.insert(0, str(Path(__file__).resolve().parent))
 
 import kit  # noqa: E402
-from functions import leave_contracts, unit_at, unit_named, units_of  # noqa: E402
+from functions import can_be_copied, copy_function, leave_contracts, leave_goals, unit_at, unit_named, units_of  # noqa: E402
 from sources import TOP, Sources  # noqa: E402
 
 EDITS = TOP / "tests" / "edits"
@@ -62,10 +62,14 @@ class Edit:
         self.crate, self.file, self.name = crate, file, file.stem
         self.label = f"{crate}/{self.name}"
         self.pairs, self.only, self.lemmas, self.fault = [], [], [], None
+        # Goals of its function that are left out, since others refuse it sooner.
+        self.goals_left = []
         # What the compiler has to say of an edit that must not compile.
         self.compiler = None
         # Whether it stands in no function, so that it changes more than one.
         self.is_wide = False
+        # The functions that it changes, and whether a copy of its function can be changed in place of that.
+        self.units, self.is_for_copies = [], False
         path = old = None
         for line in file.read_text(encoding="utf-8").split("\n"):
             if line.startswith("file: "):
@@ -86,6 +90,8 @@ class Edit:
                 self.only += line[len("# only: ") :].split()
             elif line.startswith("# compiler: "):
                 self.compiler = line[len("# compiler: ") :].strip()
+            elif line.startswith("# leave: "):
+                self.goals_left += line[len("# leave: ") :].split()
             elif line.startswith("# lemma: "):
                 # The files of lemmas that say of the type what the functions' contracts rest on.
                 self.lemmas += line[len("# lemma: ") :].split()
@@ -129,6 +135,31 @@ class Edit:
             units = {it: units[it] for it in self.only}
         return list(units.values()), None
 
+    def find_units(self, room):
+        """Notes which functions it changes of a copy of the crate, and leaves the copy as it is; gives why it can't be applied."""
+        units, why = (None, self.fault) if self.fault else self.apply(room)
+        put_back(self.crate, self, room)
+        self.units = units or []
+        if not why and len(units) == 1 and not self.is_wide and not self.only:
+            of = units[0]
+            rows = "\n".join((room / of.file).read_text(encoding="utf-8").split("\n")[of.head : of.body[1] + 1])
+            self.is_for_copies = all(path == of.file for path, _, _ in self.pairs) and self.in_text(rows) is not None and can_be_copied(self.crate, room, of)
+        return why
+
+    def in_text(self, text):
+        """The text of its function as it changes that, or None where it doesn't all stand there."""
+        for _, old, new in self.pairs:
+            if text.count(old) != 1:
+                return None
+            text = text.replace(old, new)
+        return text
+
+    def apply_to_copy(self, room, number, as_it_stands):
+        """Writes a copy of its function into the copy of the crate, with the edit in it, and gives that."""
+        of = self.units[0]
+        name = f"{of.path.rpartition('::')[2]}_{number}"
+        return copy_function(self.crate, room, of, name, (lambda it: it) if as_it_stands else self.in_text)
+
 
 def files_of(crate):
     """The files of the crate's edits: those of tests/edits, and those that `rt ci` tries too."""
@@ -136,14 +167,14 @@ def files_of(crate):
 
 
 class Batch:
-    """Edits of one crate that go into one check: no two change one function."""
+    """Edits of one crate that go into one check: of two that change one function the second changes a copy of it."""
 
     def __init__(self, crate, number):
         self.crate, self.number, self.edits, self.keys, self.is_alone = crate, number, [], set(), False
 
-    def takes(self, edit, units):
-        keys = {it.key for it in units}
-        if self.edits and (edit.is_wide or self.is_alone or keys & self.keys):
+    def takes(self, edit):
+        keys = {it.key for it in edit.units}
+        if self.edits and (edit.is_wide or self.is_alone or keys & self.keys and not edit.is_for_copies):
             return False
         self.edits.append(edit)
         self.keys |= keys
@@ -172,14 +203,34 @@ def batches_of(crate, edits):
         if edits:
             copied(crate, room)
         for edit in edits:
-            units, why = (None, edit.fault) if edit.fault else edit.apply(room)
-            put_back(crate, edit, room)
+            why = edit.find_units(room)
             if why:
                 faults[edit] = why
-            elif not any(it.takes(edit, units) for it in batches):
+            elif not any(it.takes(edit) for it in batches):
                 batches.append(Batch(crate, len(batches) + 1))
-                batches[-1].takes(edit, units)
+                batches[-1].takes(edit)
     return batches, faults
+
+
+def applied(edits, room, as_they_stand):
+    """Applies the edits to the copy of the crate, one of a function that another has changed to a copy of that; gives which functions each changes."""
+    units, keys, second = {}, set(), []
+    for edit in edits:
+        if keys & {it.key for it in edit.units}:
+            second.append(edit)
+            continue
+        found, why = edit.apply(room)
+        if as_they_stand:
+            put_back(edit.crate, edit, room)
+        if why is None:
+            units[edit] = found
+            keys |= {it.key for it in found}
+    # A copy is one of the function as it stands in the crate, and goes behind all that stands in its file.
+    for number, edit in enumerate(second, 2):
+        copy = edit.apply_to_copy(room, number, as_they_stand) if edit.is_for_copies else None
+        if copy:
+            units[edit] = [copy]
+    return units
 
 
 def check(batch, edits, words, kept, as_they_stand=False):
@@ -190,17 +241,14 @@ def check(batch, edits, words, kept, as_they_stand=False):
     with tempfile.TemporaryDirectory(prefix="edits-") as room:
         room = Path(room)
         copied(batch.crate, room)
-        units = {}
-        for edit in edits:
-            found, why = edit.apply(room)
-            if as_they_stand:
-                put_back(batch.crate, edit, room)
-            if why is None:
-                units[edit] = found
+        units = applied(edits, room, as_they_stand)
         changed = [it for found in units.values() for it in found]
         is_whole = "--allow-holes" not in words
         if not is_whole:
             leave_contracts(batch.crate, room, changed)
+        if not (is_whole or as_they_stand):
+            for edit in units:
+                leave_goals(batch.crate, room, units[edit][0], edit.goals_left)
         # What an edit adds or takes away is one line for one line, so the places of functions stay.
         asked = [word for name in sorted({it.path for it in changed}) for word in ("--only", name)]
         ran = subprocess.run([*words, *asked, "--incremental", kept], cwd=room, stdin=subprocess.DEVNULL, stdout=subprocess.PIPE, stderr=subprocess.STDOUT, errors="replace")
@@ -320,6 +368,10 @@ def tried(batch, libraries, kept, as_they_stand):
     # Of a text that must not compile the prover sees nothing, and the compiler has to see it all.
     if as_they_stand or not any(it.compiler for it in left):
         found = check(batch, left, [*words, "--allow-holes"], kept, as_they_stand)
+        # One that doesn't compile keeps the others from the prover.
+        for edit in left if len(left) > 1 else []:
+            if edit not in found or found[edit][0] in (BAD, UNTRIED):
+                found.update(check(batch, [edit], [*words, "--allow-holes"], kept, as_they_stand))
         left = [] if as_they_stand else [it for it in left if it not in found or found[it][0] != REFUSED]
     if left:
         found.update(check(batch, left, words, kept))

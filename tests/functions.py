@@ -5,26 +5,34 @@ import shutil
 from functools import lru_cache
 from pathlib import Path
 
+from sources import TOP
+
 HEAD = re.compile(r"(\s*)(?:pub(?:\([^)]*\))? )?(?:(?:const|unsafe|ghost) )*fn (\w+)")
 OWNER = re.compile(r"(?:unsafe )?impl\b|(?:pub(?:\([^)]*\))? )?trait\b")
+IS_DROP = re.compile(r"\bDrop for ")
 TRAIT = re.compile(r"(?:pub(?:\([^)]*\))? )?trait (\w+)")
 
+# The files of a function's proof that a person writes, where its proof isn't all by hand.
+ANSWERS = ("Invariants.antt", "Answers.antt")
 # A body that is of every type, and calls nothing.
 NO_BODY = "loop {}"
-# Its proof: the prover then takes the function by its contract, where it is told to check past holes.
+# Its proof: the prover then takes the function by its contract, where it is told to check past holes. Of a hole it prints the goal, and
+# that of a whole statement is long.
 NO_PROOF = """use Rattle.{crate}.proofs.{path}.Statement.{{statement}}
 
 pub {name}_spec : {{M : Type 1}} → statement M
-{name}_spec = ?
+{name}_spec = absurd ?
 """
 
 
 class Unit:
     """What is proved as one: a function, or the cycle of functions that it is in."""
 
-    def __init__(self, file, module, names, cycle, is_of_trait, head, body):
+    def __init__(self, file, module, names, cycle, header, head, body):
         # The head's first row and the rows that open and close the body count from 0, and a check's lines from 1.
-        self.file, self.cycle, self.is_of_trait, self.head, self.body = file, cycle, is_of_trait, head, body
+        self.file, self.cycle, self.header, self.head, self.body = file, cycle, header, head, body
+        # Whether it stands in a trait, and is proved for each type, and whether it is what a type makes of a trait's.
+        self.is_of_trait, self.is_for_trait = bool(TRAIT.match(header or "")), bool(header) and " for " in without_brackets(header)
         self.path = "::".join([*module, *names])
         # A closure of the function stands beside it in the module, below `fn`.
         self.closures = "::".join([*module, "fn", *names])
@@ -80,6 +88,8 @@ def owner_of(header):
     trait, is_of_trait, of = header.partition(" for ")
     if not is_of_trait:
         return type_word(header)
+    if trait.strip() == "Drop":
+        return type_word(of)
     inside = re.search(r"<(.*)>", trait)
     arguments = "".join(type_word(it) for it in inside[1].split(",")) if inside else ""
     return type_word(of) + type_word(trait) + arguments
@@ -157,10 +167,10 @@ def unit_at(room, file, text, at):
     trait = TRAIT.match(header or "")
     if header:
         owner = trait[1] if trait else owner_of(header)
-        if not trait and " for " not in without_brackets(header):
+        if not trait and (" for " not in without_brackets(header) or IS_DROP.search(header)):
             module = home_of(room, owner, file)
         names.insert(0, owner)
-    return Unit(file, module, names, cycle_of(lines, head), trait is not None, head, body)
+    return Unit(file, module, names, cycle_of(lines, head), header, head, body)
 
 
 def units_of(room, path, text):
@@ -176,6 +186,51 @@ def unit_named(room, name):
             if unit.path == name:
                 return unit
     return None
+
+
+def can_be_copied(crate, room, unit):
+    """Whether the function can stand in its file once more under another name: a trait's has its name from there, and of a cycle's there
+    are more; and a proof that others name, or that has files of more than its answers, isn't its own alone."""
+    proofs = room / "proofs"
+    own = proofs.joinpath(*unit.path.split("::"))
+    if unit.cycle or unit.is_of_trait or unit.is_for_trait or any(proofs.joinpath(*it.split("::")).exists() for it in (unit.closures, unit.own_cycle)):
+        return False
+    if own.is_dir() and any(it.name not in ANSWERS for it in own.iterdir()):
+        return False
+    named = path_in_proofs(crate, unit.path)
+    others = (it for part in ("specs", "proofs", "src") for it in sorted((room / part).glob("**/*.*t")))
+    return not any(named.search(it.read_text(encoding="utf-8")) for it in others if it.parent != own)
+
+
+def path_in_proofs(crate, path):
+    """What names a function's own modules in a specification or a proof."""
+    return re.compile(rf"(?<![\w.])(Rattle\.{crate}\.(?:proofs|specs\.contracts)\.){re.escape(path.replace('::', '.'))}(?![\w-])")
+
+
+def copy_function(crate, room, unit, name, change):
+    """Writes the function once more at the end of its file, under this name and with its lines changed by `change`, and its proof with it.
+
+    It has the contract that the function has, and no one calls it."""
+    file = room / unit.file
+    whole = (TOP / "crates" / crate / unit.file).read_text(encoding="utf-8").split("\n")
+    lines = whole[unit.head : unit.body[1] + 1]
+    old = unit.path.rpartition("::")[2]
+    lines = change("\n".join(lines)).split("\n")
+    lines[0] = re.sub(rf"\bfn {old}\b", f"fn {name}", lines[0], count=1)
+    text = file.read_text(encoding="utf-8").rstrip("\n").split("\n")
+    text += ["", f"{unit.header.rstrip()} {{"] if unit.header else [""]
+    head = sum(it.count("\n") + 1 for it in text)
+    text += [*lines, *(["}"] if unit.header else []), ""]
+    file.write_text("\n".join(text), encoding="utf-8")
+    path = f"{unit.path.rpartition('::')[0]}::{name}".removeprefix("::")
+    proof = room.joinpath("proofs", *unit.path.split("::"))
+    if proof.is_dir():
+        copy = proof.with_name(name)
+        copy.mkdir()
+        for it in proof.iterdir():
+            named = path_in_proofs(crate, unit.path).sub(rf"\g<1>{path.replace('::', '.')}", it.read_text(encoding="utf-8"))
+            (copy / it.name).write_text(named, encoding="utf-8")
+    return unit_named(room, path)
 
 
 def leave_contracts(crate, room, units):
@@ -207,7 +262,17 @@ def leave_contract(crate, room, unit, lines):
     # Below the folder of a function stands what is of a module with its name.
     own = proofs.joinpath(*unit.path.split("::"))
     own.mkdir(parents=True, exist_ok=True)
-    for name in ("Invariants.antt", "Answers.antt"):
+    for name in ANSWERS:
         (own / name).unlink(missing_ok=True)
     hole = NO_PROOF.format(crate=crate, path=unit.path.replace("::", "."), name=unit.path.rpartition("::")[2])
     (own / "Proof.antt").write_text(hole, encoding="utf-8")
+
+
+def leave_goals(crate, room, unit, goals):
+    """Puts a hole in place of the proof of each of these goals of the function."""
+    if not goals:
+        return
+    own = room.joinpath("proofs", *unit.path.split("::"), "Answers.antt")
+    text = own.read_text(encoding="utf-8") if own.is_file() else f"use Rattle.{crate}.proofs.{unit.path.replace('::', '.')}.Goals as goal\n"
+    own.parent.mkdir(parents=True, exist_ok=True)
+    own.write_text(text + "".join(f"\npub {it} : goal.{it}\n{it} = absurd ?\n" for it in goals), encoding="utf-8")
