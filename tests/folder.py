@@ -439,6 +439,17 @@ def the_check_drops_nothing_of_a_folder_in_use(try_):
     expect("the torn file", (folder / "segments_2").exists(), False)
 
 
+def the_check_judges_nothing_where_its_words_are_wrong(try_):
+    folder = try_.folder()
+    (folder / "segments_2").write_bytes(b"torn")
+    before = state(folder)
+    called = "usage: catalogue_check [--drop-torn] FOLDER\n"
+    for words in (("here",), ("--drop-torn", "here"), ("--version",)):
+        expect(f"the check with {words} before the path", try_.check(folder, *words), (2, "", called))
+    expect("the check of --drop-torn", try_.check("--drop-torn"), (2, "", called))
+    expect("the folder", state(folder), before)
+
+
 TESTS = (
     a_second_program_is_refused_and_touches_nothing,
     a_look_takes_nothing_that_is_not_committed,
@@ -455,6 +466,7 @@ TESTS = (
     a_file_of_another_hand_is_not_overwritten,
     the_check_says_that_a_folder_is_in_use_and_judges_it,
     the_check_drops_nothing_of_a_folder_in_use,
+    the_check_judges_nothing_where_its_words_are_wrong,
 )
 
 
