@@ -6,7 +6,7 @@ ghost use Rattle.cat_threads.specs.sharing.Grounds.{ground_of};
 
 use crate::threads::served::{begin, count_of, put, side_by_side};
 use crate::threads::{FIELDS, item_text};
-use crate::verdict::expect;
+use crate::verdict::expect_yes;
 use cat_base::{Refusal, SessionNo, WriteNo};
 use cat_directory::{Directory, Folder, FolderShelf, MemoryDirectory, Shelf};
 use cat_search::cat_items::Schema;
@@ -44,37 +44,37 @@ const PATH: &str = "two_sessions_test";
 fn two_sessions_write_side_by_side(rt: HostRuntime) -> Result<(), Fail> {
     let _ = fs::remove_dir_all(&rt, PATH);
     fs::create_dir(&rt, PATH)?;
-    let alloc = rt.alloc();
-    let schema = Schema::read(alloc, FIELDS)?;
-    let right = AtomicU64::new(0);
-    let begun = begin_in(&rt, alloc, schema.copy()?)?;
-    let callers = callers_in(&rt, alloc, &schema, &right)?;
-    let count = run_two::<Brand, _, _, _>(&rt, alloc, begun, [1, 2], callers);
+    let folder = Folder::at(rt.clone()?, rt.alloc(), PATH)?;
+    let shelves = shelves_in(&rt, rt.alloc())?;
+    let are_right = work_in(&rt, rt.alloc(), folder, shelves);
     fs::remove_dir_all(&rt, PATH)?;
-    expect(count == Some(2 * EACH) && right.load(Ordering::SeqCst) == 2)
+    expect_yes(are_right)
 }
 
-/// A ledger over the folder.
-fn begin_in<R: Files + AllocGlobal + Clone + Drop>(
+/// A shelf over the folder for each of them.
+fn shelves_in<R: Files + AllocGlobal + Clone + Drop>(
     rt: &R,
     alloc: Global,
-    schema: Schema,
-) -> Result<Begun<Folder<R>>, Refusal> {
-    let folder = Folder::at(rt.clone()?, alloc, PATH)?;
-    begin(alloc, folder, schema, 10, 1_000)
-}
-
-/// Two sessions that are to work over the folder.
-fn callers_in<'a, R: Files + AllocGlobal + Clone + Drop>(
-    rt: &R,
-    alloc: Global,
-    schema: &'a Schema,
-    right: &'a AtomicU64,
-) -> Result<(Working<'a, FolderShelf<R>>, Working<'a, FolderShelf<R>>), AllocError> {
+) -> Result<(FolderShelf<R>, FolderShelf<R>), AllocError> {
     let one = FolderShelf::at(rt.clone()?, alloc, PATH)?;
     let two = FolderShelf::at(rt.clone()?, alloc, PATH)?;
-    let first = Working::new(alloc, schema, one, right);
-    Ok((first, Working::new(alloc, schema, two, right)))
+    Ok((one, two))
+}
+
+/// Whether both come to their ends over the folder, and all of their writes are accepted.
+fn work_in<
+    D: Directory + Shelf + Drop + Send,
+    S: Shelf + Drop + Send,
+    R: Threads + Wait + Clock + Sync,
+>(rt: &R, alloc: Global, folder: D, shelves: (S, S)) -> Result<bool, Refusal> {
+    let schema = Schema::read(alloc, FIELDS)?;
+    let right = AtomicU64::new(0);
+    let begun = begin(alloc, folder, schema.copy()?, 10, 1_000)?;
+    let (one, two) = shelves;
+    let first = Working::new(alloc, &schema, one, &right);
+    let callers = (first, Working::new(alloc, &schema, two, &right));
+    let count = run_two::<Brand, _, _, _>(rt, alloc, begun, [1, 2], callers);
+    Ok(count == Some(2 * EACH) && right.load(Ordering::SeqCst) == 2)
 }
 
 /// The gate of a worker that rests where there was nothing to do.
