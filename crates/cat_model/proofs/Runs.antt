@@ -10,7 +10,7 @@ use Rattle.cat_base.specs.declared.refusal.Refusal.{Refusal}
 use Rattle.cat_base.specs.declared.refusal.Refusal.TheVariants.{Gone, Memory}
 use Rattle.cat_model.specs.Table.{Start, Opened, table, count, writes_up_to}
 use Rattle.cat_model.specs.Answer.{Read, answer, query_refusal}
-use Rattle.cat_model.specs.Run.{Command, Answer, Reply, Exchange, Run, accepted, writes, now, hold_by, holds, sessions, is_held, has, without_least_free, pruned, with_view, view_tokens_by, view_tokens_from, view_tokens, greatest, found_reply, or_not_held, Answers, Refuses, Stops, Fits, FitsFrom, IsRun}
+use Rattle.cat_model.specs.Run.{Command, Answer, Reply, Exchange, Run, accepted, writes, now, hold_by, holds, is_held, has, without_least_free, pruned, with_view, view_tokens_by, view_tokens_from, view_tokens, greatest, found_reply, or_not_held, Answers, Refuses, Stops, Fits, FitsFrom, IsRun}
 use Rattle.cat_model.specs.State.{hold_change}
 use Rattle.cat_model.specs.Limits.{view_limit}
 use Rattle.cat_model.specs.Laws.{RunsGoOn, IsBounded, RunsAreBounded, HeldRead, HeldReadIsOfItsTable, HeldReadsAgree}
@@ -145,7 +145,7 @@ pruned_has held n ts h =
 -- ---- holds
 
 -- a session that holds a token has spoken
-spoken : (s t : ℕ) (run : Run) → (filter_map (hold_change s t) run ≡ []) ⊎ (list_any (λ u. u == s) (sessions run) ≡ true)
+spoken : (s t : ℕ) (run : Run) → (filter_map (hold_change s t) run ≡ []) ⊎ (list_any (λ e. e.line.session == s) run ≡ true)
 spoken s t [] = inl refl
 spoken s t (e ∷ run) =
     elim (eqb_tells e.line.session s) [
@@ -153,19 +153,19 @@ spoken s t (e ∷ run) =
       | inr h ↦ elim (spoken s t run) [ inl k ↦ inl (rw (h.0, k) refl) | inr k ↦ inr (rw (h.0, k) refl) ]
     ]
 
-any_at : (p : ℕ → Bool) (s : ℕ) (xs : List ℕ) → p s ≡ true → list_any (λ u. u == s) xs ≡ true → list_any p xs ≡ true
+any_at : (p : ℕ → Bool) (s : ℕ) (run : Run) → p s ≡ true → list_any (λ e. e.line.session == s) run ≡ true → list_any (λ e. p e.line.session) run ≡ true
 any_at p s [] k h = h
-any_at p s (x ∷ xs) k h =
-    elim (eqb_tells x s) [
-      | inl e ↦ let yes : p x ≡ true = ap p e.1 ∙ k in rw yes refl
-      | inr e ↦ rw (any_at p s xs k (rw e.0 at h)) (or_true (p x))
+any_at p s (x ∷ run) k h =
+    elim (eqb_tells x.line.session s) [
+      | inl e ↦ let yes : p x.line.session ≡ true = ap p e.1 ∙ k in rw yes refl
+      | inr e ↦ rw (any_at p s run k (rw e.0 at h)) (or_true (p x.line.session))
     ]
 
 pub held_by_one : (s t : ℕ) (run : Run) → holds s t run ≡ true → is_held run t ≡ true
 held_by_one s t run h =
     elim (spoken s t run) [
       | inl e ↦ absurd (let k : false ≡ true = sym (ap (λ bs. unwrap_or (last_or None bs) false) e) ∙ h in cc)
-      | inr e ↦ any_at (λ u. holds u t run) s (sessions run) h e
+      | inr e ↦ any_at (λ u. holds u t run) s run h e
     ]
 
 -- what is held stays recorded

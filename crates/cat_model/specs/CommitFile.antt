@@ -76,7 +76,8 @@ spelled_listed s = spelled_u64 s.number ++ spelled_u64 s.file
 abbrev pub spelled_commit : CommitFile → List ℕ
 spelled_commit c =
     codes "CSGM" ++ (version_byte c.version ∷ (spelled_u64 c.generation ++ (spelled_u64 c.token ++ (spelled_u64 c.next
-    ++ (spelled_text c.version c.text ++ (spelled_each spelled_field c.schema ++ spelled_each spelled_listed c.segments))))))
+    ++ (spelled_text c.version c.text ++ (spelled_each spelled_field c.schema
+    ++ spelled_each (λ s. spelled_u64 s.number ++ spelled_u64 s.file) c.segments))))))
 
 -- the bytes are those of the commit's file
 pub record SpellsCommit (bytes : List ℕ) (c : CommitFile) : Type 0 where
@@ -91,7 +92,7 @@ live_names number file = cond (file == 0) [] (Name.live number file ∷ [])
 
 -- the names of a segment of a commit: its rows, their sources, and its live file if it has one
 abbrev pub listed_names : ListedSegment → List Name
-listed_names s = Name.segment s.number ∷ Name.source s.number ∷ live_names s.number s.file
+listed_names s = Name.segment s.number ∷ Name.source s.number ∷ cond (s.file == 0) [] (Name.live s.number s.file ∷ [])
 
 -- the names of a commit: its own file, and those of its segments (IndexCommit.getFileNames)
 abbrev pub commit_needs : CommitFile → List Name

@@ -1,6 +1,6 @@
 -- Counts over the labels of the hits: Lucene's SortedSetDocValuesFacetCounts.getTopChildren. Only the number of hits that
 -- have a label at all is our own.
-use Rattle.std.specs.Prelude.{ℕ, Bool, true, false, not, List, [], ◌∷◌, length, map, count_by}
+use Rattle.std.specs.Prelude.{ℕ, Bool, true, false, ltb, List, [], ◌∷◌, length, map, count_by}
 use Rattle.std.specs.List.{list_any, flat_map}
 use Rattle.std.specs.Ordering.{nat_cmp, is_lt, ordering_then}
 use Rattle.cat_base.specs.Texts.{sorted_set}
@@ -24,7 +24,7 @@ pub record Facets : Type 0 where
 abbrev pub labels_of : Text → Record → List Text
 labels_of dim r = labels_in (content_of dim r.item)
 
--- there is no text in the list
+-- there is no text in the list, as the code asks
 abbrev pub is_empty : List Text → Bool
 is_empty [] = true
 is_empty (l ∷ ls) = false
@@ -44,7 +44,7 @@ more a b = is_lt (ordering_then (nat_cmp b.count a.count) (text_cmp a.label b.la
 -- the counts over these hits, of which the first n are told
 abbrev pub facets_of : List Record → Text → ℕ → Facets
 facets_of hs dim n = record {
-  matching = count_by (λ h. not (is_empty (labels_of dim h))) hs;
+  matching = count_by (λ h. ltb 0 (length (labels_of dim h))) hs;
   met = length (labels_met dim hs);
   counts = first_ranked more (map (counted dim hs) (labels_met dim hs)) n;
 }

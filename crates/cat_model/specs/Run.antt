@@ -5,9 +5,10 @@
 -- are snapshot and release of SnapshotDeletionPolicy. Our own are: that a token is the number of writes, that at most
 -- `view_limit` views are recorded, pruning by a count, holds by session, and the order of the refusals.
 --
--- Some replies are left open on purpose. FILES may tell any names: which files are needed is said where files are. What
--- maintenance tells is pinned by its form alone (`may_tell`), STAT's numbers too: when segments are merged, and what a cache
--- keeps, is nobody's promise. A COMMIT may be told any generation above those before it.
+-- Some replies are left open here. FILES may tell any names: which files are needed is said where files are. What maintenance
+-- tells, STAT's numbers too, is pinned by its form alone (`may_tell`): a run doesn't say when segments are merged, nor what a cache
+-- keeps. A COMMIT may be told any generation above those before it. What these tell is said of a service as it stands between
+-- two lines (`Standings`).
 --
 -- Each command but `formless` is what some line says (`Said` of Lines.antt), and is answered.
 use Rattle.std.specs.Prelude.{◌≡◌, ◌⊎◌, ℕ, ◌+◌, ◌-◌, ◌<◌, ◌≤◌, Bool, true, false, not, ◌&&◌, ◌||◌, ltb, max, List, [], ◌∷◌, ◌++◌, length, filter, filter_map, map, count_by, Option, Some, None, option_to_list, find, Result, Ok, Err, cond, IsTrue, ◌==◌}
@@ -155,13 +156,9 @@ hold_by t _ _ = None
 abbrev pub holds : ℕ → ℕ → Run → Bool
 holds s t run = unwrap_or (last_or None (filter_map (λ e. cond (e.line.session == s) (hold_by t e.line.command e.reply) None) run)) false
 
--- the sessions that have spoken
-abbrev pub sessions : Run → List ℕ
-sessions run = map (λ e. e.line.session) run
-
--- some session holds the token
+-- some session that has spoken holds the token
 abbrev pub is_held : Run → ℕ → Bool
-is_held run t = list_any (λ s. holds s t run) (sessions run)
+is_held run t = list_any (λ e. holds e.line.session t run) run
 
 -- the token is one of the list
 abbrev pub has : List ℕ → ℕ → Bool

@@ -1,7 +1,7 @@
 -- How a service stands between two lines: what a STAT would tell, how far a merge is, which sets of rows are cached, which numbers come next,
 -- how many failures its directory has counted, and which generations were tried. By it each refusal that stands in place of an OK has its
 -- cause, and what maintenance tells is so.
-use Rattle.std.specs.Prelude.{◌≡◌, ◌⊎◌, ℕ, ◌+◌, ◌-◌, ◌<◌, ◌≤◌, min, true, List, [], ◌∷◌, ◌++◌, length, map, take, drop, sum, Contains, option_to_list, Option, Some, None, IfSome, Result, Ok, Err, IsOk}
+use Rattle.std.specs.Prelude.{◌≡◌, ◌⊎◌, ℕ, ◌+◌, ◌-◌, ◌<◌, ◌≤◌, min, true, List, [], ◌∷◌, ◌++◌, length, map, take, drop, sum, All, Contains, option_to_list, Option, Some, None, IfSome, Result, Ok, Err, IsOk}
 use Rattle.cat_base.specs.declared.refusal.Refusal.{Refusal}
 use Rattle.cat_base.specs.declared.refusal.Refusal.TheVariants.{Damaged, Device, Memory, Spent}
 use Rattle.cat_model.specs.Text.{IsOneLine, Text}
@@ -26,11 +26,11 @@ pub record Cache : Type 0 where
   pub noted : List Query
   pub making : Option ((Query × ℕ) × Progress)
 
--- What a STAT would tell, with no cached set; the merge in the making; the cached sets; the numbers of the next segment and of the next
+-- What a STAT would tell, with no cached set; the merge in the making, by the number that its segment takes; the cached sets; the numbers of the next segment and of the next
 -- commit; the failures that the directory has counted; and the generations that COMMITs tried which were refused.
 pub record Standing : Type 0 where
   pub stat : Stat
-  pub merging : Option Progress
+  pub merging : Option (ℕ × Progress)
   pub cache : Cache
   pub next_segment : ℕ
   pub next_generation : ℕ
@@ -71,36 +71,46 @@ IsSpentFor factor least s c = Unit {0}
 -- files.
 abbrev pub IsDamagedFor : Type 0 → Opened → Run → Standing → Command → Type 0
 IsDamagedFor always from past s (Command.read t (Read.get (Ok id))) = always → IfSome (stored (table from.start (writes past) t) id) IsOneLine → ⊥
-IsDamagedFor always from past s (Command.chore Chore.merge) = (always → ⊥) × (m : Progress) × (s.merging ≡ Some m) × (m.passed < m.rows)
+IsDamagedFor always from past s (Command.chore Chore.merge) = (always → ⊥) × (m : ℕ × Progress) × (s.merging ≡ Some m) × (m.1.passed < m.1.rows)
 IsDamagedFor always from past s c = Unit {0}
 
 -- ---- news
 
--- a MERGE had nothing to do, began the merge of the segments that the policy picks, passed more rows of the one in the making, or ended it
-abbrev pub MergeTells : (factor least : ℕ) → Standing → News → Type 0
-MergeTells factor least s News.idle = (s.merging ≡ None) × IsWindow factor least (segment_rows s) None
-MergeTells factor least s (News.begun_merge k) = IsToMerge factor least s × (k ≡ factor)
-MergeTells factor least s (News.copied n) =
-    (m : Progress) × (s.merging ≡ Some m) × (m.passed < m.rows) × (n ≡ m.passed + min step_limit (m.rows - m.passed))
-MergeTells factor least s News.done = (m : Progress) × (s.merging ≡ Some m) × (m.passed ≡ m.rows)
-MergeTells factor least s n = ⊥
+-- A MERGE had nothing to do; it began the merge of the segments that the policy picks, with none of their rows passed; it passed more rows of
+-- the one in the making; or it ended that. The last argument is the merge in the making that it leaves.
+abbrev pub MergeTells : (factor least : ℕ) → Standing → News → Option (ℕ × Progress) → Type 0
+MergeTells factor least s News.idle new = (s.merging ≡ None) × IsWindow factor least (segment_rows s) None × (new ≡ None)
+MergeTells factor least s (News.begun_merge k) new = (to : IsToMerge factor least s) × (k ≡ factor)
+    × (new ≡ Some (s.next_segment, record { passed = 0; rows = sum (take k (drop to.1 (segment_rows s))) }))
+MergeTells factor least s (News.copied n) new = (m : ℕ × Progress) × (s.merging ≡ Some m) × (m.1.passed < m.1.rows)
+    × (n ≡ m.1.passed + min step_limit (m.1.rows - m.1.passed)) × (new ≡ Some (m.0, record m.1 { passed = n }))
+MergeTells factor least s News.done new = (m : ℕ × Progress) × (s.merging ≡ Some m) × (m.1.passed ≡ m.1.rows) × (new ≡ None)
+MergeTells factor least s n new = ⊥
 
 -- a FORCE had nothing to do, a merge is in the making, or it began that of all segments
-abbrev pub ForceTells : Standing → News → Type 0
-ForceTells s News.idle = (s.merging ≡ None) × (2 ≤ length s.stat.segments → sum (segment_rows s) ≤ row_limit → ⊥)
-ForceTells s News.busy = (m : Progress) × (s.merging ≡ Some m)
-ForceTells s (News.begun_merge k) = IsToForce s × (k ≡ length s.stat.segments)
-ForceTells s n = ⊥
+abbrev pub ForceTells : Standing → News → Option (ℕ × Progress) → Type 0
+ForceTells s News.idle new = (s.merging ≡ None) × (2 ≤ length s.stat.segments → sum (segment_rows s) ≤ row_limit → ⊥) × (new ≡ None)
+ForceTells s News.busy new = (m : ℕ × Progress) × (s.merging ≡ Some m) × (new ≡ Some m)
+ForceTells s (News.begun_merge k) new = IsToForce s × (k ≡ length s.stat.segments)
+    × (new ≡ Some (s.next_segment, record { passed = 0; rows = sum (segment_rows s) }))
+ForceTells s n new = ⊥
 
--- What is told is so: a COMMIT tells the generation that comes next, a SWEEP how many files nobody needs, a STAT how the service stands,
--- with how many sets are cached, and a MERGE and a FORCE what they did. What a WARM tells is said by what it makes of the sets.
-abbrev pub IsToldOf : (factor least : ℕ) → Standing → Command → Reply → Type 0
-IsToldOf factor least s (Command.commit text) (Ok (Answer.number g)) = g ≡ s.next_generation
-IsToldOf factor least s (Command.chore Chore.merge) (Ok (Answer.news n)) = MergeTells factor least s n
-IsToldOf factor least s (Command.chore Chore.force) (Ok (Answer.news n)) = ForceTells s n
-IsToldOf factor least s (Command.chore Chore.sweep) (Ok (Answer.news n)) = n ≡ News.swept s.stat.pending
-IsToldOf factor least s (Command.chore Chore.stat) (Ok (Answer.news n)) = n ≡ News.state (record s.stat { cached = length s.cache.sets })
-IsToldOf factor least s c reply = Unit {0}
+-- What a line makes of the merge in the making: a MERGE and a FORCE tell what they did, and a refused MERGE may give it up; no other line
+-- begins, moves or ends it, whatever it is told.
+abbrev pub MergeMoves : (factor least : ℕ) → Standing → Command → Reply → Option (ℕ × Progress) → Type 0
+MergeMoves factor least s (Command.chore Chore.merge) (Ok (Answer.news n)) new = MergeTells factor least s n new
+MergeMoves factor least s (Command.chore Chore.merge) (Err e) new = (new ≡ s.merging) ⊎ (new ≡ None)
+MergeMoves factor least s (Command.chore Chore.force) (Ok (Answer.news n)) new = ForceTells s n new
+MergeMoves factor least s c reply new = new ≡ s.merging
+
+-- What is told is so: a COMMIT tells the generation that comes next, a SWEEP how many files nobody needs, and a STAT how the service stands,
+-- with how many sets are cached. What a MERGE and a FORCE tell is said by what they make of the merge, and what a WARM tells by what it makes
+-- of the sets.
+abbrev pub IsToldOf : Standing → Command → Reply → Type 0
+IsToldOf s (Command.commit text) (Ok (Answer.number g)) = g ≡ s.next_generation
+IsToldOf s (Command.chore Chore.sweep) (Ok (Answer.news n)) = n ≡ News.swept s.stat.pending
+IsToldOf s (Command.chore Chore.stat) (Ok (Answer.news n)) = n ≡ News.state (record s.stat { cached = length s.cache.sets })
+IsToldOf s c reply = Unit {0}
 
 -- ---- cached sets
 
@@ -156,36 +166,42 @@ LiveRowsFall [] [] = Unit {0}
 LiveRowsFall (x ∷ xs) (y ∷ ys) = (y.number ≡ x.number) × (y.rows ≡ x.rows) × (y.live ≤ x.live) × LiveRowsFall xs ys
 LiveRowsFall xs ys = ⊥
 
--- What a line makes of it, whatever it is told: it takes one number of each kind at most; it makes one segment at most, of all that waited,
--- under a number of its own, and the end of a merge alone takes some away, which stand side by side, for one at most; behind a REFRESH and a
--- COMMIT with OK nothing waits; nothing waits more than before but an item that was accepted; a merge comes only where that was told; behind a
+-- Why the segments change, but for rows that are live no more: told `done`, some that stand side by side, with the rows of the merge, become
+-- one at most, under its number and with no more rows; told anything else they stay, or one more comes last, of all that waited, under a number
+-- of its own.
+abbrev pub SegmentsMove : Standing → Reply → List SegmentStat → (next : ℕ) → Type 0
+SegmentsMove s (Ok (Answer.news News.done)) mid next = (m : ℕ × Progress) × (front taken made back : List SegmentStat)
+    × (s.merging ≡ Some m) × (s.stat.segments ≡ front ++ (taken ++ back)) × (mid ≡ front ++ (made ++ back)) × (0 < length taken)
+    × (sum (map (λ x. x.rows) taken) ≡ m.1.rows) × (length made ≤ 1) × All (λ x. (x.number ≡ m.0) × (x.rows ≤ m.1.rows)) made
+SegmentsMove s reply mid next = (mid ≡ s.stat.segments)
+    ⊎ ((mid ≡ s.stat.segments ++ record { number = s.next_segment; rows = s.stat.buffered; live = s.stat.buffered } ∷ []) × (next ≡ s.next_segment + 1))
+
+-- What a line makes of it, whatever it is told: it takes one number of each kind at most; segments change for a reason, and no row is live
+-- that wasn't; behind a REFRESH and a COMMIT with OK nothing waits; nothing waits more than before but an item that was accepted; behind a
 -- SWEEP with OK no file waits to be deleted; no failure is forgotten; and a COMMIT that was refused, but not for its text, takes the generation
 -- that it tried.
 pub record MovesOn (s : Standing) (c : Command) (reply : Reply) (new : Standing) : Type 0 where
   pub segment : (s.next_segment ≤ new.next_segment) × (new.next_segment ≤ s.next_segment + 1)
   pub generation : (s.next_generation ≤ new.next_generation) × (new.next_generation ≤ s.next_generation + 1)
   pub taken : (text : Result Text Refusal) (a : Answer) → c ≡ Command.commit text → reply ≡ Ok a → new.next_generation ≡ s.next_generation + 1
-  pub segments : (mid : List SegmentStat) × LiveRowsFall mid new.stat.segments × ((mid ≡ s.stat.segments)
-      ⊎ ((mid ≡ s.stat.segments ++ record { number = s.next_segment; rows = s.stat.buffered; live = s.stat.buffered } ∷ []) × (new.next_segment ≡ s.next_segment + 1))
-      ⊎ ((front taken made back : List SegmentStat) × (reply ≡ Ok (Answer.news News.done)) × (s.stat.segments ≡ front ++ (taken ++ back))
-      × (mid ≡ front ++ (made ++ back)) × (0 < length taken) × (length made ≤ 1)))
+  pub segments : (mid : List SegmentStat) × LiveRowsFall mid new.stat.segments × SegmentsMove s reply mid new.next_segment
   pub flushed : (text : Result Text Refusal) (a : Answer) → (c ≡ Command.refresh) ⊎ (c ≡ Command.commit text) → reply ≡ Ok a → new.stat.buffered ≡ 0
   pub waits : new.stat.buffered ≤ s.stat.buffered + length (option_to_list (accepted_by c reply))
-  pub merges : s.merging ≡ None → (new.merging ≡ None) ⊎ ((k : ℕ) × (reply ≡ Ok (Answer.news (News.begun_merge k))))
   pub cache : CacheMoves s c reply new
   pub swept : (a : Answer) → c ≡ Command.chore Chore.sweep → reply ≡ Ok a → new.stat.pending ≡ 0
   pub failures : s.failures ≤ new.failures
   pub tried : (new.tried ≡ s.tried) ⊎ ((refuses_commit c reply ≡ true)
       × (new.tried ≡ s.next_generation ∷ s.tried) × (s.next_generation < new.next_generation))
 
--- Behind its past, the exchange leads from one standing to the next: its reply has its cause and tells what is so, and the numbers of writes,
--- of recorded views and of items are those of the run. Want of memory is told only where no failure was counted.
+-- Behind its past, the exchange leads from one standing to the next: its reply has its cause and tells what is so, the merge goes as it tells,
+-- and the numbers of writes, of recorded views and of items are those of the run. Want of memory is told only where no failure was counted.
 pub record HasReason (always : Type 0) (factor least : ℕ) (from : Opened) (past : Run) (s : Standing) (e : Exchange) (new : Standing) : Type 0 where
   pub spent : e.reply ≡ Err Spent → IsSpentFor factor least s e.line.command
   pub counted : e.reply ≡ Err Device → CountsOne s.failures new.failures
   pub quiet : e.reply ≡ Err Memory → new.failures ≡ s.failures
   pub damaged : e.reply ≡ Err Damaged → IsDamagedFor always from past s e.line.command
-  pub told : IsToldOf factor least s e.line.command e.reply
+  pub told : IsToldOf s e.line.command e.reply
+  pub merges : MergeMoves factor least s e.line.command e.reply new.merging
   pub items : s.stat.buffered + sum (map (λ x. x.live) s.stat.segments) ≡ length (table from.start (writes past) (now from.start past))
   pub writes : s.stat.writes ≡ now from.start past
   pub views : s.stat.views ≡ length (view_tokens from.start past)
