@@ -1,28 +1,21 @@
 -- The page that a pass puts together is the page of the definition.
-use Rattle.std.proofs.Common.{◌≡◌, ℕ, ◌+◌, ◌<◌, ◌≤◌, Bool, true, false, ltb, Option, Some, None, option_map, is_some, find, ◌&&◌, ◌||◌, ◌==◌, List, [], ◌∷◌, length, take, map, filter, slice_get, cond, Ok, All, AllPairs, refl, sym, ◌∙◌, ap, subst, arith, inl, inr}
-use Rattle.std.specs.List.{AllByRecursion, list_any, position_or_len}
+use Rattle.std.proofs.Common.{◌≡◌, ℕ, ◌<◌, ◌≤◌, Bool, true, false, ltb, Option, Some, None, option_map, is_some, find, ◌&&◌, ◌||◌, ◌==◌, List, [], ◌∷◌, length, take, map, filter, cond, Ok, refl, sym, ◌∙◌, ap, subst, arith, inl, inr}
+use Rattle.std.specs.List.{AllByRecursion, list_any}
 use Rattle.std.specs.Ordering.{is_lt, nat_cmp, ordering_then, ordering_reverse}
 use Rattle.std.proofs.lemmas.Bool.Decides.{nat_tests}
-use Rattle.std.proofs.lemmas.List.Elements.{recursion_from_All}
-use Rattle.std.proofs.lemmas.List.Folds.{find_at}
-use Rattle.std.proofs.lemmas.List.Recursion.{is_position_or_len}
-use Rattle.cat_model.specs.Answer.{can_sort, has_mark}
-use Rattle.cat_model.specs.Item.{Schema, FieldContent, Item, Record, AreFields, IsItem, content_of}
+use Rattle.cat_model.specs.Answer.{Found, Read, answer, can_sort, has_mark}
+use Rattle.cat_model.specs.Item.{Schema, Record}
 use Rattle.cat_model.specs.Limits.{page_limit}
-use Rattle.cat_model.specs.Page.{Sort, Key, Page, Entry, key, key_in, key_cmp, comes_before, before, rest, first_ranked}
+use Rattle.cat_model.specs.Page.{Sort, Key, Page, Entry, hits, key, key_cmp, comes_before, before, rest, first_ranked, page_of}
+use Rattle.cat_model.specs.Query.{Query, matches}
 use Rattle.cat_model.specs.Ranks.{AreApart, sorted}
-use Rattle.cat_model.specs.Text.{Text, same_text}
 use Rattle.cat_model.proofs.HitOrder.{key_antisymm, is_lt-nat_cmp, is_lt-then, sorts_order_records}
 use Rattle.cat_model.proofs.Insert.{which}
 use Rattle.cat_model.proofs.Lists.{All-kept, All-weaken}
-use Rattle.cat_model.proofs.Places.{EachPair, AllApart, each_pair}
+use Rattle.cat_model.proofs.Places.{EachPair, AllApart}
 use Rattle.cat_model.proofs.Ranked.{first_sorted}
-use Rattle.cat_search.specs.Keys.{key_at}
 use Rattle.cat_search.specs.Standings.{Rank, HitStanding, rank_cmp, standing_before, key_shown, entry_shown}
-use Rattle.cat_search.specs.Pages.{hits_where, page_where, answer_where, rank_by, record_standing, mark_in_records, behind, beyond}
-use Rattle.cat_search.specs.Sorts.{IsOrderOf, HasIndex, index_named, sort_in}
-use Rattle.cat_search.specs.declared.sort.Order.{Order}
-use Rattle.cat_search.specs.declared.sort.Order.TheVariants as order
+use Rattle.cat_search.specs.Pages.{rank_by, beyond}
 use Rattle.cat_search.proofs.Candidates.{map-first}
 use Rattle.cat_views.proofs.Found.{any-is_some}
 
@@ -35,37 +28,6 @@ way (Sort.falling f) k = Rank.falling k
 
 abbrev pub named_standing : Sort → Record → HitStanding
 named_standing s r = record { rank = rank_by (way s) (key s r); number = r.number; id = r.item.id }
-
--- the first standing that passes, by recursion on the list
-abbrev first : {X : Type 0} → (X → Bool) → List X → ℕ
-first p [] = 0
-first p (x ∷ xs) = cond (p x) 0 (1 + first p xs)
-
-first-is : {X : Type 0} (p : X → Bool) (xs : List X) → first p xs ≡ position_or_len p xs
-first-is p xs = is_position_or_len (first p) p refl (λ y ys. refl) xs
-
-names_alike : (name : Text) (fs : Schema) (ps : List FieldContent) → AreFields fs ps → first (λ p. same_text p.name name) ps ≡ first (λ f. same_text f.name name) fs
-names_alike name [] [] a = refl
-names_alike name [] (p ∷ ps) a = absurd a
-names_alike name (f ∷ fs) [] a = absurd a
-names_alike name (f ∷ fs) (p ∷ ps) a =
-    ap (λ t. cond (same_text t name) 0 (1 + first (λ q. same_text q.name name) ps)) a.0.0
-    ∙ ap (λ n. cond (same_text f.name name) 0 (1 + n)) (names_alike name fs ps a.1)
-
-key_found : (schema : Schema) (name : Text) (i : Item) → IsItem schema i → key_at (index_named name schema) i ≡ key_in (content_of name i)
-key_found schema name i a =
-    let named : FieldContent → Bool = λ p. same_text p.name name in
-    let same : position_or_len (λ p. same_text p.name name) i.fields ≡ index_named name schema =
-    sym (first-is (λ p. same_text p.name name) i.fields) ∙ names_alike name schema i.fields a ∙ first-is (λ f. same_text f.name name) schema in
-    ap (λ o. key_in (option_map (λ p. p.content) o)) (ap (slice_get i.fields) (sym same) ∙ sym (find_at (λ p. same_text p.name name) i.fields))
-
-standing_alike : (schema : Schema) (s : Sort) (o : Order) (r : Record) → IsOrderOf schema s o → IsItem schema r.item → record_standing o r ≡ named_standing s r
-standing_alike schema s o r is a = by_order o is.index ∙ ap (λ t. named_standing t r) is.sort
-  where
-    by_order : (w : Order) → HasIndex schema w → record_standing w r ≡ named_standing (sort_in w) r
-    by_order order.Added i = refl
-    by_order (order.Rising f) i = ap (λ k. record { rank = rank_by Rank.rising k; number = r.number; id = r.item.id }) (ap (λ n. key_at n r.item) i ∙ key_found schema f.name.now r.item a)
-    by_order (order.Falling f) i = ap (λ k. record { rank = rank_by Rank.falling k; number = r.number; id = r.item.id }) (ap (λ n. key_at n r.item) i ∙ key_found schema f.name.now r.item a)
 
 -- ---- standings compare as records do
 
@@ -104,18 +66,6 @@ entry-is : (s : Sort) (r : Record) → entry_shown (named_standing s r) ≡ entr
 entry-is s r = ap (λ k. record { number = r.number; id = r.item.id; key = k }) (key-is s r)
 
 -- ---- lists
-
-map_alike : {X Y : Type 0} (f g : X → Y) (xs : List X) → AllByRecursion (λ x. f x ≡ g x) xs → map f xs ≡ map g xs
-map_alike f g [] a = refl
-map_alike f g (x ∷ xs) a = ap (λ y. y ∷ map f xs) a.0 ∙ ap (λ ys. g x ∷ ys) (map_alike f g xs a.1)
-
-find_alike : {X Y : Type 0} (f g : X → Y) (p : X → Bool) (xs : List X) → AllByRecursion (λ x. f x ≡ g x) xs → option_map f (find p xs) ≡ option_map g (find p xs)
-find_alike f g p [] a = refl
-find_alike f g p (x ∷ xs) a =
-    elim (p x) as (λ b. option_map f (cond b (Some x) (find p xs)) ≡ option_map g (cond b (Some x) (find p xs))) [
-      | true ↦ ap Some a.0
-      | false ↦ find_alike f g p xs a.1
-    ]
 
 pub filter-map : {X Y : Type 0} (q : Y → Bool) (f : X → Y) (xs : List X) → filter q (map f xs) ≡ map f (filter (λ x. q (f x)) xs)
 filter-map q f [] = refl
@@ -206,61 +156,32 @@ rest-is s rs None hs a e = filter_all hs
 rest-is s rs (Some mark) hs a e =
     ap (λ p. filter p hs) (found s rs mark a (find (λ r. r.number == mark) rs) refl (sym (any-is_some (λ r. r.number == mark) rs) ∙ e))
 
-marks_alike : (standing standing' : Record → HitStanding) (rs : List Record) (m : ℕ) → AllByRecursion (λ r. standing r ≡ standing' r) rs → option_map standing (find (λ r. r.number == m) rs) ≡ option_map standing' (find (λ r. r.number == m) rs)
-marks_alike standing standing' rs m a = find_alike standing standing' (λ r. r.number == m) rs a
-
 -- ---- the page
 
-module _ (rs : List Record) (accepts : Item → Bool) (s : Sort) (n : ℕ) (rises : NumbersRise rs) where
+module _ (rs : List Record) (q : Query) (s : Sort) (n : ℕ) (rises : NumbersRise rs) where
   entries-by : (m : Option ℕ) → has_mark rs m ≡ true
-      → map entry_shown (take n (sorted standing_before (filter (beyond (named_mark s rs m)) (map (named_standing s) (hits_where accepts rs))))) ≡ map (entry_of s) (first_ranked (before s) (rest s rs m (hits_where accepts rs)) n)
+      → map entry_shown (take n (sorted standing_before (filter (beyond (named_mark s rs m)) (map (named_standing s) (hits rs q))))) ≡ map (entry_of s) (first_ranked (before s) (rest s rs m (hits rs q)) n)
   entries-by m marked =
-      let hs : List Record = hits_where accepts rs in
+      let hs : List Record = hits rs q in
       let test : Record → Bool = λ h. beyond (named_mark s rs m) (named_standing s h) in
       let after : List Record = filter test hs in
-      let apart : AllApart (before s) after = all_apart s after (each_pair-filter (λ a b. a.number < b.number) test hs (each_pair-filter (λ a b. a.number < b.number) (λ r. accepts r.item) rs rises)) in
+      let apart : AllApart (before s) after = all_apart s after (each_pair-filter (λ a b. a.number < b.number) test hs (each_pair-filter (λ a b. a.number < b.number) (λ r. matches q r.item) rs rises)) in
       ap (λ ps. map entry_shown (take n (sorted standing_before ps))) (filter-map (beyond (named_mark s rs m)) (named_standing s) hs)
       ∙ ap (map entry_shown) (sym (map-first (named_standing s) (before s) standing_before (before-is s) n after))
       ∙ map_map entry_shown (named_standing s) (entry_of s) (entry-is s) (take n (sorted (before s) after))
       ∙ ap (map (entry_of s)) (sym (first_sorted (before s) (sorts_order_records s).strict after n apart))
       ∙ ap (λ hs'. map (entry_of s) (first_ranked (before s) hs' n)) (rest-is s rs m hs rises marked)
 
-  page-by : (m : Option ℕ) (total : ℕ) (entries : List Entry) → has_mark rs m ≡ true → total ≡ length (hits_where accepts rs)
-      → entries ≡ map entry_shown (take n (sorted standing_before (filter (beyond (named_mark s rs m)) (map (named_standing s) (hits_where accepts rs)))))
-      → ◌≡◌ {A = Page} (record { total = total; entries = entries }) (page_where rs accepts s m n)
+  page-by : (m : Option ℕ) (total : ℕ) (entries : List Entry) → has_mark rs m ≡ true → total ≡ length (hits rs q)
+      → entries ≡ map entry_shown (take n (sorted standing_before (filter (beyond (named_mark s rs m)) (map (named_standing s) (hits rs q)))))
+      → ◌≡◌ {A = Page} (record { total = total; entries = entries }) (page_of rs q s m n)
   page-by m total entries marked t e = λ i. record { total = t i; entries = (e ∙ entries-by m marked) i }
 
   few : (most : ℕ) → n ≤ most → ltb most n ≡ false
   few most h = grind (arith, nat_tests)
 
   -- the answer, where standings go by the name of the sort's field
-  pub answered_by : (schema : Schema) (m : Option ℕ) (total : ℕ) (entries : List Entry) → n ≤ page_limit → can_sort schema s ≡ true → has_mark rs m ≡ true → total ≡ length (hits_where accepts rs)
-      → entries ≡ map entry_shown (take n (sorted standing_before (filter (beyond (named_mark s rs m)) (map (named_standing s) (hits_where accepts rs)))))
-      → answer_where schema rs accepts s m n ≡ Ok (record { total = total; entries = entries })
-  answered_by schema m total entries h sorts marked t e = rw (few page_limit h, sorts, marked) (ap Ok (sym (page-by m total entries marked t e)))
-
-module _ (schema : Schema) (rs : List Record) (test : Item → Bool) (s : Sort) (o : Order) (is : IsOrderOf schema s o) (items : AllByRecursion (λ r. IsItem schema r.item) rs) where
-  alike : AllByRecursion (λ r. record_standing o r ≡ named_standing s r) rs
-  alike = All-weaken (λ r. IsItem schema r.item) (λ r. record_standing o r ≡ named_standing s r) (λ r a. standing_alike schema s o r is a) rs items
-
-  mark-is : (m : Option ℕ) → mark_in_records o rs m ≡ named_mark s rs m
-  mark-is None = refl
-  mark-is (Some mark) = marks_alike (record_standing o) (named_standing s) rs mark alike
-
-  standings-are : (m : Option ℕ) → behind (mark_in_records o rs m) (map (record_standing o) (hits_where test rs)) ≡ behind (named_mark s rs m) (map (named_standing s) (hits_where test rs))
-  standings-are m =
-      ap (λ k. behind k (map (record_standing o) (hits_where test rs))) (mark-is m)
-      ∙ ap (behind (named_mark s rs m)) (map_alike (record_standing o) (named_standing s) (hits_where test rs) (All-kept (λ r. record_standing o r ≡ named_standing s r) (λ r. test r.item) rs alike))
-
--- the answer over whatever stands for records
-pub answered : {X : Type 0} (record_of : X → Record) (schema : Schema) (xs : List X) (test : Item → Bool) (s : Sort) (o : Order) (m : Option ℕ) (n total : ℕ) (entries : List Entry)
-    → AllPairs (λ a b. (record_of a).number < (record_of b).number) xs → All (λ x. IsItem schema (record_of x).item) xs
-    → n ≤ page_limit → IsOrderOf schema s o → can_sort schema s ≡ true → has_mark (map record_of xs) m ≡ true
-    → total ≡ length (hits_where test (map record_of xs))
-    → entries ≡ map entry_shown (take n (sorted standing_before (behind (mark_in_records o (map record_of xs) m) (map (record_standing o) (hits_where test (map record_of xs))))))
-    → answer_where schema (map record_of xs) test s m n ≡ Ok (record { total = total; entries = entries })
-answered record_of schema xs test s o m n total entries rises items h is sorts marked t e =
-    let rs : List Record = map record_of xs in
-    let up : NumbersRise rs = each_pair-map record_of (λ a b. a.number < b.number) xs (each_pair (λ a b. (record_of a).number < (record_of b).number) xs rises) in
-    let each : AllByRecursion (λ r. IsItem schema r.item) rs = each_map record_of (λ r. IsItem schema r.item) xs (recursion_from_All (λ x. IsItem schema (record_of x).item) xs items) in
-    answered_by rs test s n up schema m total entries h sorts marked t (e ∙ ap (λ ps. map entry_shown (take n (sorted standing_before ps))) (standings-are schema rs test s o is each m))
+  pub answered_by : (schema : Schema) (m : Option ℕ) (total : ℕ) (entries : List Entry) → n ≤ page_limit → can_sort schema s ≡ true → has_mark rs m ≡ true → total ≡ length (hits rs q)
+      → entries ≡ map entry_shown (take n (sorted standing_before (filter (beyond (named_mark s rs m)) (map (named_standing s) (hits rs q)))))
+      → answer schema rs (Read.find n s m (Ok q)) ≡ Ok (Found.page (record { total = total; entries = entries }))
+  answered_by schema m total entries h sorts marked t e = rw (few page_limit h, sorts, marked) (ap (λ p. Ok (Found.page p)) (sym (page-by m total entries marked t e)))

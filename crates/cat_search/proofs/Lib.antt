@@ -7,10 +7,8 @@ pub mod KeyEnds
 pub mod Bars
 pub mod OrdinalBars
 pub mod Passed
-pub mod Passes
 pub mod Marks
 pub mod Defined
-pub mod Finds
 pub mod Shown
 pub mod Ranks
 pub mod Gathered

@@ -10,11 +10,9 @@ use Rattle.cat_model.specs.Item.{Item, Record, Schema}
 use Rattle.cat_model.specs.Page.{Sort, Entry, key, hits, before, ranked, first_ranked, rest, page_of}
 use Rattle.cat_model.specs.Query.{Query, Primary, obeys, supports, obeyed, supported, primary_matches, matches}
 use Rattle.cat_model.specs.View.{Row, View, Shows, row_of, rows_in}
-use Rattle.cat_search.specs.Pages.{answer_where, as_found}
 use Rattle.cat_search.specs.Views.{ViewsShowRecords}
 use Rattle.cat_search.specs.Rows.{bare_record}
 use Rattle.cat_search.proofs.Defined.{filter-map, map_map}
-use Rattle.cat_search.proofs.Finds.{pages_answer_finds}
 use Rattle.cat_search.proofs.Marks.{find-map}
 
 -- the item, and the record, without the source
@@ -124,12 +122,10 @@ answer_alike schema rs q s m n =
     ∙ ap (λ b. cond (ltb 1000 n) (Err Count) (cond (can_sort schema s) (cond b (Ok (Found.page (page_of rs q s m n))) (Err Mark)) (Err SortField))) (marks_alike rs m)
 
 pub answers_shown : (view : View) (q : Query) (s : Sort) (m : Option ℕ) (n : ℕ) (rs : List Record) → Shows view rs
-    → answer view.schema rs (Read.find n s m (Ok q)) ≡ as_found (answer_where view.schema (map bare_record (rows_in view)) (matches q) s m n)
+    → answer view.schema rs (Read.find n s m (Ok q)) ≡ answer view.schema (map bare_record (rows_in view)) (Read.find n s m (Ok q))
 answers_shown view q s m n rs shows =
     let rows : map strip rs ≡ map bare_record (rows_in view) = sym (map_map bare_record row_of strip (λ r. refl) rs) ∙ ap (map bare_record) shows in
-    sym (answer_alike view.schema rs q s m n)
-    ∙ ap (λ ts. answer view.schema ts (Read.find n s m (Ok q))) rows
-    ∙ sym (pages_answer_finds view.schema (map bare_record (rows_in view)) q s m n)
+    sym (answer_alike view.schema rs q s m n) ∙ ap (λ ts. answer view.schema ts (Read.find n s m (Ok q))) rows
 
 -- ---- records with these rows
 

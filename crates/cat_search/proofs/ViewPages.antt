@@ -6,10 +6,10 @@ use Rattle.std.proofs.lemmas.Bool.{le-ltb}
 use Rattle.std.proofs.lemmas.List.{length-map}
 use Rattle.cat_base.specs.declared.refusal.Refusal.{Refusal}
 use Rattle.cat_base.specs.declared.refusal.Refusal.TheVariants.{Mark}
-use Rattle.cat_model.specs.Answer.{answer, can_sort, has_mark}
-use Rattle.cat_model.specs.Item.{Item, Record, Schema}
+use Rattle.cat_model.specs.Answer.{Found, answer, can_sort, has_mark}
+use Rattle.cat_model.specs.Item.{Record, Schema}
 use Rattle.cat_model.specs.Limits.{page_limit}
-use Rattle.cat_model.specs.Page.{Sort, Page, Entry}
+use Rattle.cat_model.specs.Page.{Sort, Entry, hits, page_of}
 use Rattle.cat_model.specs.Query.{Query, matches}
 use Rattle.cat_model.specs.Ranks.{sorted}
 use Rattle.cat_model.specs.View.{Row, Leaf, View, IsView, Shows, live_rows, rows_in, row_matches}
@@ -19,11 +19,11 @@ use Rattle.cat_search.specs.declared.ask.Wanted.{Wanted}
 use Rattle.cat_search.specs.declared.sort.Order.{Order}
 use Rattle.cat_search.specs.declared.sort.Order.TheVariants as order
 use Rattle.cat_search.specs.Standings.{HitStanding, standing_before, entry_shown}
-use Rattle.cat_search.specs.Asks.{first_shown, page_to, read_of}
+use Rattle.cat_search.specs.Asks.{first_shown, read_of}
 use Rattle.cat_search.specs.Candidates.{mark_standing}
-use Rattle.cat_search.specs.Pages.{as_found, behind, hits_where, page_where}
+use Rattle.cat_search.specs.Pages.{behind}
 use Rattle.cat_search.specs.Sorts.{IsOrderOf, sort_in, sort_of}
-use Rattle.cat_search.specs.Views.{IsWantedOf, page_in}
+use Rattle.cat_search.specs.Views.{IsWantedOf}
 use Rattle.cat_search.specs.Rows.{bare_record, hits_in, mark_in_rows, row_standing}
 use Rattle.cat_search.proofs.Defined.{answered_by, named_standing, named_mark, filter-map, map_map, each_pair-map}
 use Rattle.cat_views.proofs.Selected.{Pairs-pieces}
@@ -56,29 +56,33 @@ module _ (view : View) (s : Sort) (o : Order) (is : IsOrderOf view.schema s o) w
       composed None = refl
       composed (Some r) = ap Some (standing-is r)
 
-hits-are : (q : Query) (rows : List Row) → hits_where (matches q) (map bare_record rows) ≡ map bare_record (filter (row_matches q) rows)
+hits-are : (q : Query) (rows : List Row) → hits (map bare_record rows) q ≡ map bare_record (filter (row_matches q) rows)
 hits-are q rows = filter-map (λ r. matches q r.item) bare_record rows
+
+-- the answer to the ask over the rows of the view, without their sources
+abbrev pub answer_in : View → Query → Ask → Result Found Refusal
+answer_in view q ask = answer view.schema (map bare_record (rows_in view)) (read_of ask q)
 
 -- the page of what is wanted
 pub page_answered : (view : View) (q : Query) (ask : Ask) (w : Wanted) (total : ℕ) (ls : List Leaf) (entries : List Entry)
     → IsWantedOf view ask w → ls ≡ view.leaves → IsView view
     → total ≡ length (hits_in ls q) → entries ≡ first_shown w (map (row_standing w.order) (hits_in ls q))
-    → page_in view q ask ≡ Ok (record { total = total; entries = entries })
+    → answer_in view q ask ≡ Ok (Found.page (record { total = total; entries = entries }))
 page_answered view q ask w total ls entries is same v t e =
     let s : Sort = sort_of ask.sort in
     let rows : List Row = rows_in view in
-    let hits : List Row = hits_in view.leaves q in
+    let matched : List Row = hits_in view.leaves q in
     let mark : Option HitStanding = named_mark s (map bare_record rows) ask.after in
     let shown = λ (n : ℕ) (k : Option HitStanding) (ps : List HitStanding). map entry_shown (take n (sorted standing_before (behind k ps))) in
-    let standing : entries ≡ shown ask.count mark (map (named_standing s) (hits_where (matches q) (map bare_record rows))) =
+    let standing : entries ≡ shown ask.count mark (map (named_standing s) (hits (map bare_record rows) q)) =
     e ∙ ap (λ ks. first_shown w (map (row_standing w.order) (hits_in ks q))) same
-    ∙ ap (λ n. shown n (mark_standing w.mark) (map (row_standing w.order) hits)) is.count
-    ∙ ap (λ k. shown ask.count k (map (row_standing w.order) hits)) (is.mark ∙ mark-is view s w.order is.order rows ask.after)
-    ∙ ap (shown ask.count mark) (standings-are view s w.order is.order hits ∙ ap (map (named_standing s)) (sym (hits-are q rows))) in
-    let count : total ≡ length (hits_where (matches q) (map bare_record rows)) =
-    t ∙ ap (λ ks. length (hits_in ks q)) same ∙ sym (length-map hits bare_record) ∙ ap length (sym (hits-are q rows)) in
+    ∙ ap (λ n. shown n (mark_standing w.mark) (map (row_standing w.order) matched)) is.count
+    ∙ ap (λ k. shown ask.count k (map (row_standing w.order) matched)) (is.mark ∙ mark-is view s w.order is.order rows ask.after)
+    ∙ ap (shown ask.count mark) (standings-are view s w.order is.order matched ∙ ap (map (named_standing s)) (sym (hits-are q rows))) in
+    let count : total ≡ length (hits (map bare_record rows) q) =
+    t ∙ ap (λ ks. length (hits_in ks q)) same ∙ sym (length-map matched bare_record) ∙ ap length (sym (hits-are q rows)) in
     let rises = each_pair-map bare_record (λ a b. a.number < b.number) rows (each_pair (λ a b. a.number < b.number) rows (live_rise view v view.leaves refl)) in
-    answered_by (map bare_record rows) (matches q) s ask.count rises view.schema ask.after total entries is.few is.sorts is.has count standing
+    answered_by (map bare_record rows) q s ask.count rises view.schema ask.after total entries is.few is.sorts is.has count standing
 
 -- ---- over whatever records the view shows
 
@@ -87,19 +91,18 @@ abbrev pub IsRefused : View → Ask → Refusal → Type 0
 IsRefused view ask e = (q : Query) (rs : List Record) → Shows view rs → answer view.schema rs (read_of ask q) ≡ Err e
 
 module _ (view : View) (ask : Ask) where
-  pub shown : (q : Query) (rs : List Record) → Shows view rs → (r : Result Page Refusal) → page_in view q ask ≡ r → answer view.schema rs (read_of ask q) ≡ as_found r
-  shown q rs shows r is = answers_shown view q (sort_of ask.sort) ask.after ask.count rs shows ∙ ap as_found is
+  pub shown : (q : Query) (rs : List Record) → Shows view rs → (r : Result Found Refusal) → answer_in view q ask ≡ r → answer view.schema rs (read_of ask q) ≡ r
+  shown q rs shows r is = answers_shown view q (sort_of ask.sort) ask.after ask.count rs shows ∙ is
 
   -- what is answered, where neither the count nor the sort is refused
   judged : ask.count ≤ page_limit → can_sort view.schema (sort_of ask.sort) ≡ true → (q : Query) (b : Bool) → has_mark (map bare_record (rows_in view)) ask.after ≡ b
-      → page_in view q ask ≡ cond b (Ok (page_where (map bare_record (rows_in view)) (matches q) (sort_of ask.sort) ask.after ask.count)) (Err Mark)
+      → answer_in view q ask ≡ cond b (Ok (Found.page (page_of (map bare_record (rows_in view)) q (sort_of ask.sort) ask.after ask.count))) (Err Mark)
   judged few sorts q b has = rw (le-ltb page_limit ask.count few, sorts, has) refl
 
   module _ (schema : Schema) (same : schema ≡ view.schema) where
     -- the count or the sort is refused
-    pub unresolved : (e : Refusal) → ((rs : List Record) (accepts : Item → Bool) → page_to schema rs accepts ask ≡ Err e) → IsRefused view ask e
-    unresolved e refused q rs shows =
-        shown q rs shows (Err e) (subst (λ f. page_to f (map bare_record (rows_in view)) (matches q) ask ≡ Err e) same (refused (map bare_record (rows_in view)) (matches q)))
+    pub unresolved : (e : Refusal) → ((q : Query) (rs : List Record) → answer schema rs (read_of ask q) ≡ Err e) → IsRefused view ask e
+    unresolved e refused q rs shows = subst (λ f. answer f rs (read_of ask q) ≡ Err e) same (refused q rs)
 
     module _ (ls : List Leaf) (leaves : ls ≡ view.leaves) (few : ask.count ≤ page_limit) (sorts : can_sort schema (sort_of ask.sort) ≡ true) where
       can : can_sort view.schema (sort_of ask.sort) ≡ true

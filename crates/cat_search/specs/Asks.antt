@@ -1,25 +1,19 @@
 -- What is asked of a page, and what a page takes of the standings of its hits.
-use Rattle.std.specs.Prelude.{Bool, List, map, take, Result, Ok}
-use Rattle.cat_base.specs.declared.refusal.Refusal.{Refusal}
+use Rattle.std.specs.Prelude.{List, map, take, Ok}
 use Rattle.cat_model.specs.Answer.{Read}
-use Rattle.cat_model.specs.Item.{Schema, Item, Record}
-use Rattle.cat_model.specs.Page.{Entry, Page}
+use Rattle.cat_model.specs.Page.{Entry}
 use Rattle.cat_model.specs.Query.{Query}
 use Rattle.cat_model.specs.Ranks.{sorted}
 use Rattle.cat_search.specs.declared.ask.Ask.{Ask}
 use Rattle.cat_search.specs.declared.ask.Wanted.{Wanted}
 use Rattle.cat_search.specs.Candidates.{mark_standing}
-use Rattle.cat_search.specs.Pages.{answer_where, behind}
+use Rattle.cat_search.specs.Pages.{behind}
 use Rattle.cat_search.specs.Sorts.{sort_of}
 use Rattle.cat_search.specs.Standings.{HitStanding, entry_shown, standing_before}
 
 -- the ask for the hits of a query, as a read
 abbrev pub read_of : Ask → Query → Read
 read_of ask q = Read.find ask.count (sort_of ask.sort) ask.after (Ok q)
-
--- the answer to the ask, of the records whose items pass a test
-abbrev pub page_to : Schema → List Record → (Item → Bool) → Ask → Result Page Refusal
-page_to schema rs accepts ask = answer_where schema rs accepts (sort_of ask.sort) ask.after ask.count
 
 -- of these standings the first that are wanted, of those that the mark comes before
 abbrev pub first_wanted : Wanted → List HitStanding → List HitStanding

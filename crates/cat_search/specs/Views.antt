@@ -4,15 +4,12 @@ use Rattle.cat_base.specs.declared.refusal.Refusal.{Refusal}
 use Rattle.cat_model.specs.Answer.{Found, answer, can_sort, has_mark}
 use Rattle.cat_model.specs.Item.{Record}
 use Rattle.cat_model.specs.Limits.{page_limit}
-use Rattle.cat_model.specs.Page.{Page}
-use Rattle.cat_model.specs.Query as model
-use Rattle.cat_model.specs.Query.{matches}
 use Rattle.cat_model.specs.View.{View, Shows, rows_in}
 use Rattle.cat_query.specs.declared.query.Query.{Query}
 use Rattle.cat_query.specs.View.{query_of}
 use Rattle.cat_search.specs.declared.ask.Ask.{Ask}
 use Rattle.cat_search.specs.declared.ask.Wanted.{Wanted}
-use Rattle.cat_search.specs.Asks.{page_to, read_of}
+use Rattle.cat_search.specs.Asks.{read_of}
 use Rattle.cat_search.specs.Candidates.{mark_standing}
 use Rattle.cat_search.specs.Rows.{bare_record, mark_in_rows}
 use Rattle.cat_search.specs.Sorts.{IsOrderOf, sort_of}
@@ -25,10 +22,6 @@ pub record Prepared : Type 0 where
 -- the answer to the ask over records
 abbrev pub answer_over : Prepared → Ask → List Record → Result Found Refusal
 answer_over p ask rs = answer p.view.schema rs (read_of ask (query_of p.query))
-
--- the answer to the ask over the live rows of a view that a query matches
-abbrev pub page_in : View → model.Query → Ask → Result Page Refusal
-page_in view q ask = page_to view.schema (map bare_record (rows_in view)) (matches q) ask
 
 -- the ask is one that isn't refused over the view, and its order, its mark and its count are found
 pub record IsWantedOf (view : View) (ask : Ask) (wanted : Wanted) : Type 0 where

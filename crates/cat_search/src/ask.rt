@@ -1,11 +1,11 @@
 //! What is asked of a page, and what a page takes of its hits.
-ghost use Rattle.std.specs.Prelude.{◌≡◌, ◌≤◌, Bool, Err, List, true, IfOk, IfErr};
+ghost use Rattle.std.specs.Prelude.{◌≡◌, ◌≤◌, Err, List, true, IfOk, IfErr};
 ghost use Rattle.cat_model.specs.Answer.{answer, can_sort};
-ghost use Rattle.cat_model.specs.Item.{Item, Record};
+ghost use Rattle.cat_model.specs.Item.{Record};
 ghost use Rattle.cat_model.specs.Limits.{page_limit};
 ghost use Rattle.cat_model.specs.Query as model;
 ghost use Rattle.cat_model.specs.View.{Shows};
-ghost use Rattle.cat_search.specs.Asks.{page_to, read_of};
+ghost use Rattle.cat_search.specs.Asks.{read_of};
 ghost use Rattle.cat_search.specs.Sorts.{IsOrderOf, sort_of};
 ghost use Rattle.cat_search.specs.Views.{IsWantedOf};
 
@@ -42,8 +42,7 @@ impl<'a> Ask<'a> {
         ensures count { IfOk result (λ r. (r.1 ≡ self.entry.count) × (self.entry.count ≤ page_limit)) }
         ensures order { IfOk result (λ r. IsOrderOf schema.now (sort_of self.entry.sort) r.0) }
         ensures sorts { IfOk result (λ r. can_sort schema.now (sort_of self.entry.sort) ≡ true) }
-        ensures err { IfErr result (λ e. (rs : List Record) (accepts : Item → Bool)
-            → page_to schema.now rs accepts self.entry ≡ Err e) }
+        ensures err { IfErr result (λ e. (q : model.Query) (rs : List Record) → answer schema.now rs (read_of self.entry q) ≡ Err e) }
     {
         if self.count > MAX_PAGE as u64 {
             return Err(Refusal::Count);

@@ -1,5 +1,4 @@
-//! The pages of hits, each in one pass over the segments of a view or over a list of records, and the sorts that they go
-//! by.
+//! The pages of hits, each in one pass over the segments of a view, and the sorts that they go by.
 #![tactic(auto)]
 
 mod ask;
@@ -19,7 +18,6 @@ mod mark_rows;
 mod number_bar;
 mod offers;
 mod ordinal_bar;
-mod pages;
 mod prepared;
 mod ranges;
 mod sort;
@@ -33,6 +31,5 @@ pub use cat_query::{cat_columns, cat_items};
 pub use cat_views::{Leaf, View, cat_segment};
 pub use entries::{Entry, Page};
 pub use keys::Key;
-pub use pages::{Accepts, Numbered, page_of, pages_answer_finds};
 pub use prepared::{Prepared, views_show_records};
 pub use sort::Sort;

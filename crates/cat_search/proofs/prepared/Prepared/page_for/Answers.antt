@@ -20,6 +20,6 @@ returns c = λ ask is.
     let q = query_of c.self.inside.query in
     let w = c.args.wanted.now in
     subst (λ (p : Prepared). IsWantedOf p.view ask w → IsAnswerTo p ask (Ok (Found.page c.new.result))) c.self.view_is
-    (λ is rs shows. shown view ask q rs shows (Ok c.new.result)
+    (λ is rs shows. shown view ask q rs shows (Ok (Found.page c.new.result))
     (page_answered view q ask w c.in_ok-total.total c.leaves.result.now c.in_ok-total.entries.items is c.leaves.ensures.value c.leaves.ensures.valid c.in_ok-total.ensures.total c.in_ok-total.ensures.first
-    ∙ ap Ok (sym c.new.ensures))) is
+    ∙ ap (λ p. Ok (Found.page p)) (sym c.new.ensures))) is
