@@ -1,6 +1,7 @@
 -- The counts by ordinals are the counts of the model.
-use Rattle.std.proofs.Common.{◌≡◌, ℕ, zero, suc, ◌+◌, ◌<◌, List, [], ◌∷◌, ◌++◌, length, get_or, map, filter, Bool, true, false, cond, not, ◌&&◌, ◌||◌, refl, sym, ap, ◌∙◌, arith, inl, inr, append_assoc, length-append, Less}
+use Rattle.std.proofs.Common.{◌≡◌, ℕ, zero, suc, ◌+◌, ◌<◌, ltb, List, [], ◌∷◌, ◌++◌, length, get_or, map, filter, Bool, true, false, cond, not, ◌&&◌, ◌||◌, refl, sym, ap, ◌∙◌, arith, inl, inr, append_assoc, length-append, Less}
 use Rattle.std.proofs.lemmas.Bool.{cases_Bool}
+use Rattle.std.proofs.lemmas.Bool.Decides.{nat_tests}
 use Rattle.std.proofs.lemmas.List.{get_or-map, length-map}
 use Rattle.std.proofs.lemmas.Grind.{same_number_lists}
 use Rattle.std.proofs.lemmas.Slice.Eq.{bytes_eq-Decides}
@@ -101,6 +102,11 @@ counts_are labels rows counts are =
     same_number_lists counts (map (λ t. label_count t rows) labels) long
     (λ k lt. let low : k < length labels = omega (arith, are.long) in are.each k low ∙ sym (get_or-map (λ t. label_count t rows) labels k [] 0 low))
 
+-- a hit has a label where it has one at least
+labels_some : (ls : List Text) → not (is_empty ls) ≡ ltb 0 (length ls)
+labels_some [] = refl
+labels_some (l ∷ ls) = grind (arith, nat_tests)
+
 module _ (labels : List Text) (rows : List (List Text)) (dimension : Text) (hs : List Record) (set : IsTextSet labels) (is : rows ≡ map (labels_of dimension) hs)
     (heard : (t : Text) → list_any (has_label t) rows ≡ true → has_label t labels ≡ true) where
   abbrev with_hits : List Text
@@ -138,7 +144,9 @@ module _ (labels : List Text) (rows : List (List Text)) (dimension : Text) (hs :
       → met ≡ length (met_from 0 totals) → ranked ≡ first_ranked label_comes_first (met_from 0 totals) n → counts ≡ map (label_told labels) ranked
       → ◌≡◌ {A = Facets} (record { matching = labelled; met = met; counts = counts }) (facets_of hs dimension n)
   facets_are totals n labelled met ranked counts are l m r c =
-      let matching : labelled ≡ count_by (λ h. not (is_empty (labels_of dimension h))) hs = l ∙ ap labelled_count is ∙ count-map (λ ls. not (is_empty ls)) (labels_of dimension) hs in
+      let matching : labelled ≡ count_by (λ h. ltb 0 (length (labels_of dimension h))) hs =
+      l ∙ ap labelled_count is ∙ count-map (λ ls. not (is_empty ls)) (labels_of dimension) hs
+      ∙ ap (λ (f : Record → Bool). count_by f hs) (λ i h. labels_some (labels_of dimension h) i) in
       let many : met ≡ length (labels_met dimension hs) =
       m ∙ sym (length-map (met_from 0 totals) (label_told labels)) ∙ ap length (told_are totals are) ∙ length-map (labels_met dimension hs) (counted dimension hs) in
       let shown : counts ≡ first_ranked more (map (counted dimension hs) (labels_met dimension hs)) n =
