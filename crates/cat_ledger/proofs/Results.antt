@@ -1,6 +1,6 @@
 -- What a call's result says, whichever it is.
-use Rattle.std.proofs.Common.{Err, Ok, Result}
-use Rattle.std.specs.Prelude.{IfErr, IfOk, OnErr, OnOk}
+use Rattle.std.proofs.Common.{◌≡◌, Err, Ok, Result, ap}
+use Rattle.std.specs.Prelude.{IfErr, IfOk, IsErr, IsErrAnd, OnErr, OnOk}
 
 -- it is so, whether the call succeeds or not
 pub either_way : {X E : Type 0} {P : X → Type 0} (A B : Type 0) (r : Result X E) → IfOk r P → OnErr r B → ((x : X) → P x → A) → (B → A) → A
@@ -31,3 +31,8 @@ if_err P Q (Err e) f p = f e p
 pub either_ok : {X E A : Type 0} (r : Result X E) → A → OnOk r A
 either_ok (Ok x) a = a
 either_ok (Err e) a = tt
+
+-- what passes a refusal on gives that very refusal
+pub passed_on : {X E : Type 0} (r : Result X E) (e : E) → IsErr r × IsErrAnd r (λ x. x ≡ e) → r ≡ Err e
+passed_on (Err x) e is = ap Err is.1
+passed_on (Ok x) e is = absurd is.1

@@ -1,6 +1,7 @@
 -- What a ledger makes of what a session says.
-use Rattle.std.specs.Prelude.{◌≡◌, ℕ, List, map}
+use Rattle.std.specs.Prelude.{◌≡◌, ℕ, List, map, Result, Ok, Err}
 use Rattle.std.specs.List.Sorted.{IsPermutation, IsSorted}
+use Rattle.cat_base.specs.declared.refusal.Refusal.{Refusal}
 use Rattle.cat_model.specs.Files.{Name}
 use Rattle.cat_model.specs.Heard.{IsCommand}
 use Rattle.cat_model.specs.Lines.{Said}
@@ -23,6 +24,11 @@ AnswersCommand bytes session c old reply new =
 abbrev pub AnswersSaid : {D : Type 0} → (D → ToldFiles) → ℕ → Said → LedgerOnDevice D → Reply → LedgerOnDevice D → Type 0
 AnswersSaid bytes session said old reply new =
     (c : Command) × IsCommand json (shape_in old).schema said c × AnswersCommand bytes session c old reply new
+
+-- a number, as the answer of a line; a refusal stays
+abbrev pub number_reply : Result ℕ Refusal → Reply
+number_reply (Ok n) = Ok (Answer.number n)
+number_reply (Err e) = Err e
 
 -- The names of just these files are told, in the byte order of their texts.
 pub record TellsNames (needed : List Name) (told : Answer) : Type 0 where

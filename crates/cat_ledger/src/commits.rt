@@ -3,20 +3,21 @@
 //! Lucene's `IndexWriter.commit` with `setLiveCommitData`, under a `SnapshotDeletionPolicy` over a `KeepOnlyLastCommitDeletionPolicy`.
 ghost use Rattle.cat_directory.specs.Frames.{CountsFailures};
 ghost use Rattle.cat_ledger_laws.specs.lines.LineLaws.{Commits};
-ghost use Rattle.cat_base.specs.declared.refusal.Refusal.TheVariants.{Device, Memory, NoCommit, NoSnapshot, Spent};
-ghost use Rattle.cat_ledger.specs.Histories.{Event, Goes, GoesOn, GoesRefused, MayHaveTried, SparesOtherCommits};
+ghost use Rattle.cat_base.specs.declared.refusal.Refusal.TheVariants.{Device, Memory, Spent};
+ghost use Rattle.cat_ledger.specs.Answering.{AnswersSaid, number_reply};
+ghost use Rattle.cat_ledger.specs.Histories.{GoesBy, GoesOn, MayHaveTried, SparesOtherCommits};
 ghost use Rattle.cat_ledger.specs.Lasting.{IsCarried, IsLasting, OwnComesLast};
-ghost use Rattle.cat_ledger.specs.Ledgers.{DoesCall, Spares, device_in, policy_in, shape_in};
+ghost use Rattle.cat_ledger.specs.Ledgers.{Spares, device_in, policy_in, shape_in};
 ghost use Rattle.cat_ledger.specs.Refusals.{KeepsMerge};
-ghost use Rattle.std.specs.Prelude.{Err, IfErr, IfOk, None, Ok, OnErr, OnOk, Some, ℕ, ◌-◌, ◌<◌, ◌≡◌, ◌≤◌, ◌⊎◌};
+ghost use Rattle.std.specs.Prelude.{Err, IfErr, IfOk, Ok, OnErr, OnOk, Some, ℕ, ◌<◌, ◌≡◌, ◌≤◌, ◌⊎◌};
 ghost use Rattle.cat_directory.specs.declared.name.FileName.{FileName};
+ghost use Rattle.cat_model.specs.Lines.{Said};
 ghost use Rattle.cat_model.specs.Forms.{IsCommitText};
 ghost use Rattle.cat_ledger_laws.specs.model.Replies.{IsLeft};
 ghost use Rattle.cat_ledger_laws.specs.model.Ledger.{IsNew};
 ghost use Rattle.cat_ledger_laws.specs.shape.Ties.{Makes};
 ghost use Rattle.cat_ledger_state.specs.Cores.{MayNotFlush};
 ghost use Rattle.cat_directory.specs.Devices.{CountsOne, NoMore};
-ghost use Rattle.cat_ledger_laws.specs.model.Calls.{Snaps, Unsnapped};
 ghost use Rattle.cat_model.specs.Heard.{commit_text_of};
 ghost use Rattle.cat_model.specs.Limits.{last_number, snapshot_limit};
 ghost use Rattle.cat_directory.specs.Names.{name_of};
@@ -85,26 +86,19 @@ impl<D: Directory + Shelf> Ledger<D> {
     /// fails, or [`Refusal::Memory`], where it counted no failure. A flush that ended stays done, names that were begun are
     /// pending, and a generation whose file was begun isn't given out again. A merge in the making goes on.
     pub fn commit(&mut self, text: &str) -> Result<Generation, Refusal>
-        ensures number { IfOk result (λ g. g ≡ (shape_in self.old).next_generation) }
-        ensures form { OnOk result (commit_text_of text.now ≡ Ok text.now) }
-        ensures left { OnOk result ((shape_in self.old).next_generation ≤ last_number) }
-        ensures ok { OnOk result (DoesCall D.bytes (Commits text.now) self.old self.new) }
+        ensures answers { (session : ℕ) → AnswersSaid D.bytes session (Said.commit text.now) self.old (number_reply result) self.new }
         ensures wrong { IfErr (commit_text_of text.now) (λ e. (result ≡ Err e) × (self.new ≡ self.old)) }
         ensures none { commit_text_of text.now ≡ Ok text.now → last_number < (shape_in self.old).next_generation
             → (result ≡ Err Spent) × (self.new ≡ self.old) }
         ensures spent { commit_text_of text.now ≡ Ok text.now → IfErr result (λ e. e ≡ Spent
             → (last_number < (shape_in self.old).next_generation) ⊎ MayNotFlush (shape_in self.old)) }
-        ensures due { IfErr result (λ e. (e ≡ Memory) ⊎ (e ≡ Device) → (commit_text_of text.now ≡ Ok text.now)
-            × ((shape_in self.old).next_generation ≤ last_number) × (MayNotFlush (shape_in self.old) → ⊥)) }
-        ensures err { OnErr result (DoesCall D.bytes IsLeft self.old self.new) }
+        ensures due { IfErr result (λ e. (e ≡ Memory) ⊎ (e ≡ Device) → MayNotFlush (shape_in self.old) → ⊥) }
         ensures stays { OnErr result (KeepsMerge (shape_in self.old) (shape_in self.new)) }
         ensures crash { Spares D.may_leave self.old self.new }
         ensures order { OwnComesLast (D.bytes (device_in self.old)) (D.may_leave (device_in self.old)) (shape_in self.old)
             (D.bytes (device_in self.new)) (D.may_leave (device_in self.new)) (shape_in self.new).leaves }
-        ensures refusal { commit_text_of text.now ≡ Ok text.now → IfErr result (λ e. (e ≡ Memory) ⊎ (e ≡ Device) ⊎ (e ≡ Spent)) }
         ensures fails { CountsFailures D.can_fail D.fault_count (device_in self.old) (device_in self.new) result }
-        ensures answered { IfOk result (λ g. Goes D.bytes D.may_leave (Event.Answered g) self.old self.new) }
-        ensures refused { OnErr result (GoesRefused D.bytes D.may_leave text.now self.old self.new) }
+        ensures history { GoesBy D.bytes D.may_leave (Some (Said.commit text.now)) (number_reply result) self.old self.new }
         ensures policy { policy_in self.new ≡ policy_in self.old }
     {
         if let Err(refusal) = judge_commit_text(text) {
@@ -122,14 +116,9 @@ impl<D: Directory + Shelf> Ledger<D> {
     /// [`Refusal::NoCommit`] where no commit is kept, [`Refusal::Spent`] where the newest has 65,535 snapshots; else
     /// [`Refusal::Memory`]. An error changes nothing.
     pub fn snapshot(&mut self) -> Result<Generation, Refusal>
-        ensures room { IfOk result (λ g. snapshots_in (shape_in self.old).taken g < snapshot_limit) }
-        ensures ok { IfOk result (λ g. DoesCall D.bytes (Snaps g) self.old self.new) }
-        ensures none { IfErr result (λ e. e ≡ NoCommit → newest_generation (shape_in self.old).commits ≡ None) }
-        ensures spent { IfErr result (λ e. e ≡ Spent → (g : ℕ) × (newest_generation (shape_in self.old).commits ≡ Some g)
-            × (snapshots_in (shape_in self.old).taken g ≡ snapshot_limit)) }
+        ensures answers { (session : ℕ) → AnswersSaid D.bytes session Said.snapshot self.old (number_reply result) self.new }
         ensures due { IfErr result (λ e. e ≡ Memory → (g : ℕ) × (newest_generation (shape_in self.old).commits ≡ Some g)
             × (snapshots_in (shape_in self.old).taken g < snapshot_limit)) }
-        ensures refusal { IfErr result (λ e. (e ≡ NoCommit) ⊎ (e ≡ Spent) ⊎ (e ≡ Memory)) }
         ensures err { OnErr result (self.new ≡ self.old) }
         ensures same { device_in self.new ≡ device_in self.old }
         ensures goes { GoesOn D.bytes D.may_leave self.old self.new }
@@ -144,12 +133,8 @@ impl<D: Directory + Shelf> Ledger<D> {
     ///
     /// [`Refusal::NoSnapshot`] where it has none; else [`Refusal::Memory`]. An error changes nothing.
     pub fn unsnapshot(&mut self, generation: Generation) -> Result<u32, Refusal>
-        ensures some { OnOk result (0 < snapshots_in (shape_in self.old).taken generation) }
-        ensures left { IfOk result (λ left. left ≡ snapshots_in (shape_in self.old).taken generation - 1) }
-        ensures ok { OnOk result (DoesCall D.bytes (Unsnapped generation) self.old self.new) }
-        ensures none { IfErr result (λ e. e ≡ NoSnapshot → snapshots_in (shape_in self.old).taken generation ≡ 0) }
+        ensures answers { (session : ℕ) → AnswersSaid D.bytes session (Said.release_snapshot generation) self.old (number_reply result) self.new }
         ensures due { IfErr result (λ e. e ≡ Memory → 0 < snapshots_in (shape_in self.old).taken generation) }
-        ensures refusal { IfErr result (λ e. (e ≡ NoSnapshot) ⊎ (e ≡ Memory)) }
         ensures err { OnErr result (self.new ≡ self.old) }
         ensures same { device_in self.new ≡ device_in self.old }
         ensures goes { GoesOn D.bytes D.may_leave self.old self.new }

@@ -99,7 +99,7 @@ impl<D: Directory + Shelf> Ledger<D> {
     }
 
     /// What calls in a row leave of commits, for a caller's proof; it does nothing. Whatever calls led here, each of which says what it
-    /// left of commits in its clause `history` (of [`commit`](Ledger::commit): `answered` and `refused`):
+    /// left of commits ([`commit`](Ledger::commit) in its clause `history`, each other call that changes a ledger in `goes`):
     ///
     /// - The newest commit is the last one that was answered, or where none was, the one that the first ledger had.
     /// - Where such directories always tell of their files, and a crash left no commit ahead of the first ledger's newest one, as

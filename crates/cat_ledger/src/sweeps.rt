@@ -43,6 +43,7 @@ impl<D: Directory + Shelf> Ledger<D> {
             → NoMore (D.may_leave (device_in self.old) q) (D.may_leave (device_in self.new) q) }
         ensures refusal { IfErr result (λ e. (e ≡ Memory) ⊎ (e ≡ Device)) }
         ensures fails { CountsFailures D.can_fail D.fault_count (device_in self.old) (device_in self.new) result }
+        ensures making { (shape_in self.new).merging ≡ (shape_in self.old).merging }
         ensures goes { GoesOn D.bytes D.may_leave self.old self.new }
     {
         self.core.sweep(&mut self.device)

@@ -4,11 +4,12 @@
 ghost use Rattle.cat_directory.specs.Frames.{CountsFailures, OnlyReads};
 ghost use Rattle.cat_directory.specs.Devices.{CountsReading, NoMore};
 ghost use Rattle.cat_base.specs.declared.refusal.Refusal.TheVariants.{Damaged, Device, Full, Gone, Memory, NotHeld, Spent};
+ghost use Rattle.cat_ledger.specs.Answering.{AnswersSaid, number_reply};
 ghost use Rattle.cat_ledger.specs.Histories.{GoesOn};
 ghost use Rattle.cat_ledger.specs.Ledgers.{DoesCall, Spares, device_in, shape_in};
 ghost use Rattle.cat_ledger.specs.Refusals.{KeepsMerge};
 ghost use Rattle.cat_ledger.specs.upkeep.Spared.{SparesCommits};
-ghost use Rattle.std.specs.Prelude.{Err, IfErr, IfNone, IfOk, IfSome, List, None, Ok, OnErr, OnOk, [], false, length, not, option_map, true, ℕ, ◌&&◌, ◌-◌, ◌==◌, ◌≡◌, ◌≢◌, ◌⊎◌, Some, find};
+ghost use Rattle.std.specs.Prelude.{Err, IfErr, IfNone, IfOk, IfSome, List, None, Ok, OnErr, OnOk, [], false, length, not, option_map, true, ℕ, ◌&&◌, ◌==◌, ◌≡◌, ◌⊎◌, Some, find};
 ghost use Rattle.cat_directory.specs.declared.name.FileName.{FileName};
 ghost use Rattle.cat_ledger_state.specs.cat_views.Sources.{HoldsSource, MayReachSource, TellsSource, stored_length};
 ghost use Rattle.cat_ledger.specs.Grants.{IsAsked, IsGrant, released_session, released_token, token_granted};
@@ -17,7 +18,8 @@ ghost use Rattle.cat_ledger_laws.specs.model.Ledger.{IsNew};
 ghost use Rattle.cat_ledger_laws.specs.shape.Ties.{Makes, ToldFiles};
 ghost use Rattle.cat_ledger_state.specs.Cores.{MayNotFlush};
 ghost use Rattle.cat_ledger_laws.specs.lines.LineLaws.{MayRefresh, Refreshes};
-ghost use Rattle.cat_ledger_laws.specs.model.Calls.{Pruned, RecordsView};
+ghost use Rattle.cat_ledger_laws.specs.model.Calls.{RecordsView};
+ghost use Rattle.cat_model.specs.Lines.{Said};
 ghost use Rattle.cat_model.specs.State.{has_hold, held_in};
 ghost use Rattle.cat_ledger_laws.specs.lines.HoldLaws.{holding, letting_go};
 ghost use Rattle.cat_ledger_laws.specs.lines.ReadLaws.{IsRecordedAs};
@@ -151,11 +153,11 @@ impl<D: Directory + Shelf> Ledger<D> {
     /// [`Refusal::Device`] where the flush fails, or [`Refusal::Memory`], where the directory counted no failure. A flush that ended
     /// stays done; else an error leaves at most names that are pending. A merge in the making goes on.
     pub fn refresh(&mut self) -> Result<Token, Refusal>
+        ensures answers { (session : ℕ) → AnswersSaid D.bytes session Said.refresh self.old (number_reply result) self.new }
         ensures token { IfOk result (λ t. t ≡ (shape_in self.old).count) }
         ensures ok { OnOk result (DoesCall D.bytes Refreshes self.old self.new) }
         ensures may { OnOk result (MayRefresh (shape_in self.old)) }
         ensures full { (MayRefresh (shape_in self.old) → ⊥) → (result ≡ Err Full) × (self.new ≡ self.old) }
-        ensures room { MayRefresh (shape_in self.old) → IfErr result (λ e. e ≢ Full) }
         ensures spent { IfErr result (λ e. e ≡ Spent → MayNotFlush (shape_in self.old)) }
         ensures due { IfErr result (λ e. (e ≡ Memory) ⊎ (e ≡ Device) → MayNotFlush (shape_in self.old) → ⊥) }
         ensures err { OnErr result (DoesCall D.bytes IsLeft self.old self.new) }
@@ -290,15 +292,20 @@ impl<D: Directory + Shelf> Ledger<D> {
     }
 
     /// Takes out each view that isn't among the newest, as many as the count says but at least one, and that nobody holds;
-    /// answers how many went. (Lucene: `SearcherLifetimeManager.prune` by a `Pruner`.) An error changes nothing.
-    pub fn prune(&mut self, count: u64) -> Result<u64, AllocError>
-        ensures went { IfOk result (λ n. n ≡ length (shape_in self.old).views - length (shape_in self.new).views) }
-        ensures ok { OnOk result (DoesCall D.bytes (Pruned count) self.old self.new) }
+    /// answers how many went. (Lucene: `SearcherLifetimeManager.prune` by a `Pruner`.)
+    ///
+    /// [`Refusal::Memory`] alone, which changes nothing.
+    pub fn prune(&mut self, count: u64) -> Result<u64, Refusal>
+        ensures answers { (session : ℕ) → AnswersSaid D.bytes session (Said.prune count) self.old (number_reply result) self.new }
+        ensures refusal { IfErr result (λ e. e ≡ Memory) }
         ensures err { OnErr result (self.new ≡ self.old) }
         ensures same { device_in self.new ≡ device_in self.old }
         ensures goes { GoesOn D.bytes D.may_leave self.old self.new }
     {
-        let went = self.core.prune(count)?;
+        let went = match self.core.prune(count) {
+            Ok(went) => went,
+            Err(AllocError) => return Err(Refusal::Memory),
+        };
         Ok(went)
     }
 

@@ -1,4 +1,8 @@
-use Rattle.std.proofs.Common.{sym}
+use Rattle.std.proofs.Common.{◌≡◌, ◌∙◌, false, refl, sym, true}
+use Rattle.cat_model.specs.Run.{Command}
+use Rattle.cat_ledger_laws.proofs.lines.LineAnswers.{refreshes_answer}
+use Rattle.cat_ledger_laws.proofs.lines.RefusalAnswers.{full_refreshes_answer}
+use Rattle.cat_ledger.proofs.Answered.{refresh_stopped, tells_same}
 use Rattle.cat_ledger_laws.specs.lines.LineLaws.{Refreshes}
 use Rattle.cat_ledger_laws.specs.model.Replies.{IsLeft}
 use Rattle.cat_ledger.proofs.Failures.{fails_as}
@@ -61,3 +65,38 @@ returns-then-is_refused-clause-stays g c = nothing_ends c.args.self.now.core
 
 pub returns-in-Err-clause-stays : goal.returns-in-Err-clause-stays
 returns-in-Err-clause-stays g c = rw (← c.self.view_is) c.in-Err.ensures.stays
+
+pub returns-then-is_refused-clause-answers : goal.returns-then-is_refused-clause-answers
+returns-then-is_refused-clause-answers g c =
+    let l = c.self.inside in
+    let told = g.D.Holder.bytes l.device in
+    rw (← c.self.view_is) (λ session. (
+      Command.refresh,
+      refl,
+      full_refreshes_answer l.policy told told l.core l.core session
+          (λ may. absurd (let both : true ≡ false = c.if-is_refused.ensures ∙ may in cc)) (refl, λ q. refl),
+    ))
+
+pub returns-in-Err-clause-answers : goal.returns-in-Err-clause-answers
+returns-in-Err-clause-answers g c =
+    let old = c.self.inside in
+    let now = c.flush_and_record.new in
+    rw (← c.self.view_is) (λ session. (
+      Command.refresh,
+      refl,
+      refresh_stopped old.policy (g.D.Holder.bytes old.device) (g.D.Holder.bytes now.device) old.core now.core session c.in-Err.refusal
+          (sym c.if-is_refused.ensures) c.in-Err.ensures.err c.in-Err.ensures.refusal,
+    ))
+
+pub returns-clause-answers : goal.returns-clause-answers
+returns-clause-answers g c =
+    let old = c.self.inside in
+    let now = c.flush_and_record.new in
+    let told = g.D.Holder.bytes old.device in
+    let told' = g.D.Holder.bytes now.device in
+    rw (← c.self.view_is) (λ session. (
+      Command.refresh,
+      refl,
+      tells_same old.policy told told' old.core now.core session Command.refresh c.count-token.result old.core.count c.count-token.ensures.count
+          (refreshes_answer old.policy told told' old.core now.core session (sym c.if-is_refused.ensures) c.in_default.ensures.ok),
+    ))

@@ -1,4 +1,8 @@
 use Rattle.std.proofs.Common.{refl, ap}
+use Rattle.cat_model.specs.Run.{Command}
+use Rattle.cat_ledger_laws.proofs.lines.LineAnswers.{snaps_answer}
+use Rattle.cat_ledger.proofs.Results.{passed_on}
+use Rattle.cat_ledger.proofs.Answered.{snap_refused}
 use Rattle.cat_ledger.proofs.Lasting.{memory_keeps, same_needs}
 use Rattle.cat_ledger_laws.specs.model.Calls.{Snaps}
 use Rattle.cat_ledger_laws.proofs.shape.Committed.{snaps_make}
@@ -15,10 +19,27 @@ invariant_of-self-2 g c =
     (same_needs _ _ c.in_ok-generation.ensures.ok.rest)
     (snaps_make n c.self.inside.core c.snapshot.new.self told told c.in_ok-generation.ensures.ok (λ q. refl)) c.self.invariant
 
-pub returns-clause-ok : goal.returns-clause-ok
-returns-clause-ok g c =
+pub returns-in_err-generation-clause-answers : goal.returns-in_err-generation-clause-answers
+returns-in_err-generation-clause-answers g c =
     let told = g.D.Holder.bytes c.self.inside.device in
-    rw (← c.self.view_is) (snaps_make c.in_ok-generation.generation c.self.inside.core c.snapshot.new.self told told c.in_ok-generation.ensures.ok (λ q. refl))
+    let e = c.in_err-generation.field-0.0 in
+    rw (← c.self.view_is) (rw (passed_on c.from_residual.result e c.from_residual.ensures) (λ session. (
+      Command.snapshot,
+      refl,
+      snap_refused c.self.inside.policy told told c.self.inside.core c.snapshot.new.self session e
+          c.in_err-generation.ensures.none c.in_err-generation.ensures.spent (c.in_err-generation.ensures.err, λ q. refl) c.in_err-generation.ensures.refusal,
+    )))
+
+pub returns-clause-answers : goal.returns-clause-answers
+returns-clause-answers g c =
+    let told = g.D.Holder.bytes c.self.inside.device in
+    let n = c.in_ok-generation.generation in
+    rw (← c.self.view_is) (λ session. (
+      Command.snapshot,
+      refl,
+      snaps_answer c.self.inside.policy told told c.self.inside.core c.snapshot.new.self session n c.in_ok-generation.ensures.room
+          (snaps_make n c.self.inside.core c.snapshot.new.self told told c.in_ok-generation.ensures.ok (λ q. refl)),
+    ))
 
 pub returns-clause-goes : goal.returns-clause-goes
 returns-clause-goes g c =

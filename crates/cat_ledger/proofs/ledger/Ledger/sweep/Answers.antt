@@ -1,4 +1,4 @@
-use Rattle.std.proofs.Common.{[]}
+use Rattle.std.proofs.Common.{[], ap}
 use Rattle.cat_ledger.proofs.Failures.{writing_fails}
 use Rattle.cat_ledger.proofs.Lasting.{sweep_keeps}
 use Rattle.cat_ledger_laws.proofs.shape.Writes.{sweeps_make}
@@ -6,6 +6,7 @@ use Rattle.cat_ledger.proofs.Histories.{goes_so, gone_goes}
 use Rattle.cat_ledger_laws.proofs.model.Taking.{takes_sweep}
 use Rattle.cat_ledger.proofs.Lasting.{lets_sweep}
 use Rattle.cat_ledger_laws.specs.model.Calls.{MayLeave}
+use Rattle.cat_ledger_laws.specs.shape.Shapes.{Shape}
 use Rattle.cat_ledger.proofs.ledger.Ledger.sweep.Goals as goal
 
 pub invariant_of-self : goal.invariant_of-self
@@ -26,3 +27,6 @@ returns-clause-goes g c =
     rw (← c.self.view_is) (goes_so g.D.Holder.bytes g.D.Holder.may_leave (gone_goes g.D.Holder.bytes g.D.Holder.may_leave (MayLeave []) lets_sweep (takes_sweep []) c.self.inside.device c.sweep.new.device c.self.inside.core c.sweep.new.self
     c.self.inside.policy c.self.inside.policy (sweeps_make c.self.inside.core c.sweep.new.self (g.D.Holder.bytes c.self.inside.device) (g.D.Holder.bytes c.sweep.new.device)
     c.sweep.ensures.leaves c.sweep.ensures.used) c.self.invariant.carried c.sweep.ensures.files.back))
+
+pub returns-clause-making : goal.returns-clause-making
+returns-clause-making g c = rw (← c.self.view_is) (ap (λ (s : Shape). s.merging) c.sweep.ensures.leaves.rest)
