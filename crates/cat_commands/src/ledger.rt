@@ -1,17 +1,13 @@
 //! The commands that need no right to a view: what a ledger answers to them.
 
 mod chores;
-mod committing;
 mod merging;
 mod stats;
 mod telling;
-mod viewing;
 mod warming;
 mod writing;
 
 pub use chores::{Chore, maintain};
-pub use committing::{commit, release_snapshot, snapshot};
 pub use telling::{files_of_commit, text_of_commit};
-pub use viewing::{prune, refresh};
 pub use warming::warm;
 pub use writing::{delete, delete_where, put};

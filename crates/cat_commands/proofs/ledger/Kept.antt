@@ -28,8 +28,8 @@ segments_same s = record { leaves = refl; buffered = refl; known = λ q there. t
 pub behind_same : (chore : Chore) (s : Shape) → KeepsBehind chore s s
 behind_same Merge s = segments_same s
 behind_same Force s = (merge_same s, segments_same s)
-behind_same Sweep s = tt
-behind_same Stat s = tt
+behind_same Sweep s = refl
+behind_same Stat s = refl
 
 -- what is said of maintenance by what it is
 pub behind_so : (chore is : Chore) (s new : Shape) (r : Result Answer Refusal) → chore ≡ is → OnErr r (KeepsBehind is s new) → OnErr r (KeepsBehind chore s new)

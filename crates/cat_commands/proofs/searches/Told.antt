@@ -1,6 +1,6 @@
 -- What a read for items is told, from what its calls say.
 use Rattle.std.proofs.Common.{◌≡◌, ◌∙◌, ℕ, List, ap, inl, inr, refl, subst, sym}
-use Rattle.std.specs.Prelude.{◌≢◌, ◌⊎◌, Option, None, Some, Result, Ok, Err, IfErr, IsErr, IsErrAnd}
+use Rattle.std.specs.Prelude.{◌≢◌, ◌⊎◌, Option, None, Some, Result, Ok, Err, IfErr}
 use Rattle.cat_base.specs.declared.refusal.Refusal.{Refusal}
 use Rattle.cat_base.specs.declared.refusal.Refusal.TheVariants.{Memory, NotHeld, Query as NoQuery}
 use Rattle.cat_model.specs.Answer.{Found, Read, answer, query_refusal}
@@ -74,11 +74,6 @@ module _ (schema : Schema) (text : Text) (asked : Result Query Refusal → Read)
         | inl memory ↦ subst (λ f. Told held (Err f)) (sym memory) (memory_told held)
         | inr other ↦ found_told (Err e) (finds other)
       ]
-
--- the refusal that a call passes on
-pub passed_on : {T E : Type 0} (r : Result T E) (e : E) → IsErr r × IsErrAnd r (λ x. x ≡ e) → r ≡ Err e
-passed_on (Err x) e is = ap Err is.1
-passed_on (Ok x) e is = absurd is.1
 
 -- and if it was due, it is so of whoever passes it on
 pub due_passed : {X Y : Type 0} (view : View) (asked : Read) (e : Refusal) (one : Result X Refusal) (other : Result Y Refusal) → one ≡ Err e → other ≡ Err e

@@ -73,6 +73,7 @@ fn sweep<D: Directory + Shelf>(ledger: &mut Ledger<D>) -> Result<Answer, Refusal
     ensures refusal { IfErr result (λ e. (e ≡ Memory) ⊎ (e ≡ Device)) }
     ensures fails { CountsFailures D.can_fail D.fault_count (device_in ledger.old) (device_in ledger.new) result }
     ensures crash { SparesUsed D.may_leave ledger.old ledger.new }
+    ensures making { (shape_in ledger.new).merging ≡ (shape_in ledger.old).merging }
     ensures goes { GoesOn D.bytes D.may_leave ledger.old ledger.new }
 {
     match ledger.sweep() {

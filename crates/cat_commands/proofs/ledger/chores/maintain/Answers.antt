@@ -109,12 +109,12 @@ pub returns-in-Sweep-clause-keeps : goal.returns-in-Sweep-clause-keeps
 returns-in-Sweep-clause-keeps g c =
     let old = shape_in c.args.ledger.now in
     let new = shape_in c.sweep.new.ledger in
-    behind_so c.args.chore Sweep old new c.sweep.result c.in-Sweep.is (behind_none Sweep old new c.sweep.result tt)
+    behind_so c.args.chore Sweep old new c.sweep.result c.in-Sweep.is (behind_none Sweep old new c.sweep.result c.sweep.ensures.making)
 
 pub returns-in-Stat-clause-keeps : goal.returns-in-Stat-clause-keeps
 returns-in-Stat-clause-keeps g c =
     let s = shape_in c.args.ledger.now in
-    behind_so c.args.chore Stat s s c.tell_stat.result c.in-Stat.is (behind_none Stat s s c.tell_stat.result tt)
+    behind_so c.args.chore Stat s s c.tell_stat.result c.in-Stat.is (behind_none Stat s s c.tell_stat.result refl)
 
 pub returns-in-Merge-clause-reach : goal.returns-in-Merge-clause-reach
 returns-in-Merge-clause-reach g c =

@@ -37,3 +37,9 @@ returns-in-Ok-clause-fails g c = fails_as _ _ (λ P no. no) c.in-Ok.ensures.fail
 
 pub returns-in-Err-clause-fails : goal.returns-in-Err-clause-fails
 returns-in-Err-clause-fails g c = fails_as _ _ (λ P no. no) c.in-Err.ensures.fails
+
+pub returns-in-Ok-clause-making : goal.returns-in-Ok-clause-making
+returns-in-Ok-clause-making g c = c.in-Ok.ensures.making
+
+pub returns-in-Err-clause-making : goal.returns-in-Err-clause-making
+returns-in-Err-clause-making g c = c.in-Err.ensures.making

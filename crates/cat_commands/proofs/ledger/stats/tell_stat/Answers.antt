@@ -3,7 +3,7 @@ use Rattle.cat_model.specs.Run.{Chore, Command, News}
 use Rattle.cat_ledger.specs.Ledgers.{device_in, policy_in, shape_in}
 use Rattle.cat_ledger_laws.proofs.lines.StopAnswers.{chores_answer, stats_tell}
 use Rattle.cat_protocol.specs.replies.Reply.{stat_of}
-use Rattle.cat_commands.proofs.ledger.Answered.{memory_refused}
+use Rattle.cat_ledger.proofs.Answered.{memory_refused}
 use Rattle.cat_commands.proofs.ledger.stats.tell_stat.Goals as goal
 
 pub returns-in-Ok-clause-answers : goal.returns-in-Ok-clause-answers

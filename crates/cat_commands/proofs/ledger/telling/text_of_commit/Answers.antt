@@ -6,7 +6,7 @@ use Rattle.cat_ledger.specs.Ledgers.{device_in, policy_in, shape_in}
 use Rattle.cat_ledger_laws.specs.lines.LineLaws.{line_of}
 use Rattle.cat_ledger_laws.specs.lines.RunLaws.{AnswersCarried}
 use Rattle.cat_ledger_laws.proofs.lines.ReadAnswers.{texts_answer, unkept_texts_answer}
-use Rattle.cat_commands.proofs.ledger.Answered.{memory_refused, named}
+use Rattle.cat_ledger.proofs.Answered.{memory_refused, named}
 use Rattle.cat_commands.proofs.ledger.telling.text_of_commit.Goals as goal
 
 pub returns-in-Err-clause-answers : goal.returns-in-Err-clause-answers

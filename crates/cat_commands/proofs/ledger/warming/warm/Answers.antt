@@ -6,7 +6,8 @@ use Rattle.cat_ledger.specs.Ledgers.{device_in, policy_in, shape_in}
 use Rattle.cat_ledger_laws.proofs.lines.RefusalAnswers.{foreign_chores_answer}
 use Rattle.cat_ledger_laws.proofs.lines.StopAnswers.{chores_answer, warms_tell}
 use Rattle.cat_protocol.specs.replies.Reply.{news_in_reply}
-use Rattle.cat_commands.proofs.ledger.Answered.{at_zero, memory_refused}
+use Rattle.cat_ledger.proofs.Answered.{memory_refused}
+use Rattle.cat_commands.proofs.ledger.Answered.{at_zero}
 use Rattle.cat_commands.proofs.ledger.Warmed.{warms_may_tell}
 use Rattle.cat_commands.proofs.ledger.warming.warm.Goals as goal
 

@@ -5,7 +5,8 @@ use Rattle.cat_model.specs.Heard.{id_of}
 use Rattle.cat_model.specs.Run.{Command}
 use Rattle.cat_ledger.specs.Ledgers.{device_in, policy_in, shape_in}
 use Rattle.cat_ledger_laws.proofs.lines.LineAnswers.{deletes_answer}
-use Rattle.cat_commands.proofs.ledger.Answered.{delete_refused, tells_same}
+use Rattle.cat_ledger.proofs.Answered.{tells_same}
+use Rattle.cat_commands.proofs.ledger.Answered.{delete_refused}
 use Rattle.cat_commands.proofs.ledger.Kept.{unchanged}
 use Rattle.cat_ledger.proofs.Histories.{nothing_goes_on}
 use Rattle.cat_commands.proofs.ledger.writing.delete.Goals as goal

@@ -8,7 +8,8 @@ use Rattle.cat_model.specs.Run.{Command}
 use Rattle.cat_cached_sets.specs.cat_query.View.{query_of}
 use Rattle.cat_ledger.specs.Ledgers.{device_in, policy_in, shape_in}
 use Rattle.cat_ledger_laws.proofs.lines.LineAnswers.{query_deletes_answer}
-use Rattle.cat_commands.proofs.ledger.Answered.{query_delete_refused, query_unread, tells_same}
+use Rattle.cat_ledger.proofs.Answered.{tells_same}
+use Rattle.cat_commands.proofs.ledger.Answered.{query_delete_refused, query_unread}
 use Rattle.cat_commands.proofs.ledger.Kept.{unchanged}
 use Rattle.cat_ledger.proofs.Histories.{nothing_goes_on}
 use Rattle.cat_commands.proofs.ledger.writing.delete_where.Goals as goal

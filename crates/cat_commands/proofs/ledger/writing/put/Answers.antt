@@ -5,7 +5,8 @@ use Rattle.cat_model.specs.Run.{Command}
 use Rattle.cat_items.specs.Reading.{item_of}
 use Rattle.cat_ledger.specs.Ledgers.{device_in, policy_in, shape_in}
 use Rattle.cat_ledger_laws.proofs.lines.LineAnswers.{puts_answer}
-use Rattle.cat_commands.proofs.ledger.Answered.{err_is, failure_differs, limit_differs, not_memory, put_refused, put_unread, tells_same}
+use Rattle.cat_ledger.proofs.Answered.{tells_same}
+use Rattle.cat_commands.proofs.ledger.Answered.{err_is, failure_differs, limit_differs, not_memory, put_refused, put_unread}
 use Rattle.cat_commands.proofs.ledger.ItemFaults.{is_of_text}
 use Rattle.cat_commands.proofs.ledger.Kept.{merge_same, unchanged}
 use Rattle.cat_ledger.proofs.Failures.{fails_as, none_fails}

@@ -10,7 +10,8 @@ use Rattle.cat_commands.specs.searches.Uses.{NotesSpelled, UsesSpelled}
 use Rattle.cat_commands.proofs.searches.Cached.{by_any, by_held, of_held, to_held, unchanged}
 use Rattle.cat_commands.specs.searches.Reads.{GivesDue}
 use Rattle.cat_model.specs.Query as model
-use Rattle.cat_commands.proofs.searches.Told.{due_passed, facets_is, fault_told, found_told, memory_told, passed_on, refusal_told, unheld_told}
+use Rattle.cat_ledger.proofs.Results.{passed_on}
+use Rattle.cat_commands.proofs.searches.Told.{due_passed, facets_is, fault_told, found_told, memory_told, refusal_told, unheld_told}
 use Rattle.cat_commands.proofs.searches.counts.count_facets.Goals as goal
 
 pub returns-in_err-query-clause-told : goal.returns-in_err-query-clause-told

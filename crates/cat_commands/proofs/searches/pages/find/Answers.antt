@@ -11,7 +11,8 @@ use Rattle.cat_commands.proofs.searches.Cached.{by_held, of_held, to_held, uncha
 use Rattle.cat_commands.specs.searches.Reads.{GivesDue}
 use Rattle.cat_protocol.specs.cat_search.Asks.{read_of}
 use Rattle.cat_model.specs.Query as model
-use Rattle.cat_commands.proofs.searches.Told.{due_passed, fault_told, find_is, found_told, memory_told, passed_on, refusal_told, unheld_told}
+use Rattle.cat_ledger.proofs.Results.{passed_on}
+use Rattle.cat_commands.proofs.searches.Told.{due_passed, fault_told, find_is, found_told, memory_told, refusal_told, unheld_told}
 use Rattle.cat_commands.proofs.searches.pages.find.Goals as goal
 
 pub returns-in_err-query-clause-told : goal.returns-in_err-query-clause-told
