@@ -66,6 +66,17 @@ kept_so : (A : Type 0) (P : Reply → Type 0) → ((a : Answer) → P (Ok a)) �
 kept_so A P ok err (Ok a) h = ok (answer_of a)
 kept_so A P ok err (Err e) h = err e h
 
+-- so of the merge in the making, behind a refusal of any line but a MERGE
+pub kept_making : (A : Type 0) (result : Result code.Answer Refusal) (said : Option Said) → OnErr result A
+    → (e : Refusal) → reply_of result ≡ Err e → said ≢ Some (Said.chore Chore.merge) → A
+kept_making A (Ok a) said h e is other = absurd (let no : ◌≡◌ {A = Reply} (Ok (answer_of a)) (Err e) = is in cc)
+kept_making A (Err x) said h e is other = h
+
+-- where the ledger is as it was
+pub unchanged_making : {D : Type 0} (old left : LedgerOnDevice D) (result : Result code.Answer Refusal) (said : Option Said) → OnErr result (left ≡ old)
+    → (e : Refusal) → reply_of result ≡ Err e → said ≢ Some (Said.chore Chore.merge) → (shape_in left).merging ≡ (shape_in old).merging
+unchanged_making old left result said h e is other = ap (λ l. (shape_in l).merging) (kept_making (left ≡ old) result said h e is other)
+
 module _ {D : Type 0} (bytes : D → ToldFiles) (can_fail : D → Type 0) (faults : D → ℕ) (old : LedgerOnDevice D) (f : Filters)
     (result : Result code.Answer Refusal) (left : LedgerOnDevice D) (f' : Filters) where
   abbrev world : Service D
@@ -114,6 +125,7 @@ module _ {D : Type 0} (bytes : D → ToldFiles) (can_fail : D → Type 0) (fault
     rises = fails.rises;
     stays = tt;
     keeps = kept_so KeepsMaking (Keeps (Said.put text)) (λ a. tt) (λ e kept. kept) result stays;
+    making = λ e k other. (kept_making KeepsMaking result (Some (Said.put text)) stays e k other).merging;
   }
 
   pub refresh_caused : IfErr result (λ e. e ≡ Spent → MayNotFlush (shape_in old)) → Fails → OnErr result KeepsMaking → Causes Said.refresh
@@ -129,14 +141,15 @@ module _ {D : Type 0} (bytes : D → ToldFiles) (can_fail : D → Type 0) (fault
     rises = fails.rises;
     stays = tt;
     keeps = kept_so KeepsMaking (Keeps Said.refresh) (λ a. tt) (λ e kept. kept) result stays;
+    making = λ e k other. (kept_making KeepsMaking result (Some Said.refresh) stays e k other).merging;
   }
 
   pub get_caused : (t : ℕ) (id : Text)
       → IfErr result (λ e. e ≡ Damaged → (view : View) → IsRecordedAs (shape_in old).views t view → (files : ℕ → List ℕ)
       → TellsSource (bytes (device_in old)) files view id → HoldsSource files view id → ⊥)
       → IfErr result (λ e. e ≡ Memory → (view : View) → IsRecordedAs (shape_in old).views t view → MayReachSource (bytes (device_in old)) view id)
-      → Fails → Causes (Said.get t id)
-  get_caused t id damaged reach fails = record {
+      → Fails → shape_in left ≡ shape_in old → Causes (Said.get t id)
+  get_caused t id damaged reach fails same = record {
     spent = λ k. tt;
     device = given_so (can_fail (device_in old)) Device result Device fails.device refl;
     counted = given_so Counted Device result Device fails.counted refl;
@@ -148,12 +161,13 @@ module _ {D : Type 0} (bytes : D → ToldFiles) (can_fail : D → Type 0) (fault
     rises = fails.rises;
     stays = tt;
     keeps = tt;
+    making = λ e k other. ap (λ (s : Shape). s.merging) same;
   }
 
   -- an OPEN, of which the run says what it is told
-  pub open_caused : (token : Option ℕ) → Quiet → Rises → Causes (said_open token)
-  open_caused None quiet rises = record { spent = λ k. tt; device = λ k. tt; counted = λ k. tt; damaged = λ k. tt; reached = λ k. tt; quiet = λ k. quiet; told = tt; swept = tt; rises = rises; stays = tt; keeps = tt }
-  open_caused (Some t) quiet rises = record { spent = λ k. tt; device = λ k. tt; counted = λ k. tt; damaged = λ k. tt; reached = λ k. tt; quiet = λ k. quiet; told = tt; swept = tt; rises = rises; stays = tt; keeps = tt }
+  pub open_caused : (token : Option ℕ) → Quiet → Rises → OnErr result (left ≡ old) → Causes (said_open token)
+  open_caused None quiet rises same = record { spent = λ k. tt; device = λ k. tt; counted = λ k. tt; damaged = λ k. tt; reached = λ k. tt; quiet = λ k. quiet; told = tt; swept = tt; rises = rises; stays = tt; keeps = tt; making = unchanged_making old left result _ same }
+  open_caused (Some t) quiet rises same = record { spent = λ k. tt; device = λ k. tt; counted = λ k. tt; damaged = λ k. tt; reached = λ k. tt; quiet = λ k. quiet; told = tt; swept = tt; rises = rises; stays = tt; keeps = tt; making = unchanged_making old left result _ same }
 
   -- ---- COMMIT
 
@@ -206,6 +220,7 @@ module _ {D : Type 0} (bytes : D → ToldFiles) (can_fail : D → Type 0) (fault
     rises = fails.rises;
     stays = if_wrong (left ≡ old) (commit_text_of text) wrong;
     keeps = kept_so KeepsMaking (Keeps (Said.commit text)) (λ a. tt) (λ e kept. kept) result stays;
+    making = λ e k other. (kept_making KeepsMaking result (Some (Said.commit text)) stays e k other).merging;
   }
 
   -- ---- maintenance
@@ -216,8 +231,9 @@ module _ {D : Type 0} (bytes : D → ToldFiles) (can_fail : D → Type 0) (fault
   warm_told (Ok a) told = told
   warm_told (Err e) told = tt
 
-  pub warm_caused : IfOk result (λ a. IsWarmTold (shape_in old) f f' (answer_of a)) → Quiet → Rises → Causes (Said.chore Chore.warm)
-  warm_caused told quiet rises = record {
+  pub warm_caused : IfOk result (λ a. IsWarmTold (shape_in old) f f' (answer_of a)) → Quiet → Rises → (shape_in left).merging ≡ (shape_in old).merging
+      → Causes (Said.chore Chore.warm)
+  warm_caused told quiet rises same = record {
     spent = λ k. tt;
     device = λ k. tt;
     counted = λ k. tt;
@@ -229,6 +245,7 @@ module _ {D : Type 0} (bytes : D → ToldFiles) (can_fail : D → Type 0) (fault
     rises = rises;
     stays = tt;
     keeps = tt;
+    making = λ e k other. same;
   }
 
   -- session 0 alone is told anything but that the line has no form
@@ -334,6 +351,7 @@ module _ {D : Type 0} (bytes : D → ToldFiles) (can_fail : D → Type 0) (fault
         rises = fails.rises;
         stays = tt;
         keeps = kept_so (KeepsBehind Merge (shape_in old) (shape_in left)) (Keeps (Said.chore Chore.merge)) (λ a. tt) (λ e kept. kept) result keeps;
+        making = λ e k other. absurd (other refl);
       }
       refuses Force may lacks reach fails told swept keeps = record {
         spent = λ k. let m = force_may may Spent (λ e. cc e) k in (m.due, m.spent refl);
@@ -347,6 +365,7 @@ module _ {D : Type 0} (bytes : D → ToldFiles) (can_fail : D → Type 0) (fault
         rises = fails.rises;
         stays = tt;
         keeps = kept_so (KeepsBehind Force (shape_in old) (shape_in left)) (Keeps (Said.chore Chore.force)) (λ a. tt) (λ e kept. kept) result keeps;
+        making = λ e k other. (kept_making (KeepsBehind Force (shape_in old) (shape_in left)) result (Some (Said.chore Chore.force)) keeps e k other).0.merging;
       }
       refuses Sweep may lacks reach fails told swept keeps = record {
         spent = λ k. tt;
@@ -360,6 +379,7 @@ module _ {D : Type 0} (bytes : D → ToldFiles) (can_fail : D → Type 0) (fault
         rises = fails.rises;
         stays = tt;
         keeps = tt;
+        making = kept_making (KeepsBehind Sweep (shape_in old) (shape_in left)) result _ keeps;
       }
       refuses Stat may lacks reach fails told swept keeps = record {
         spent = λ k. tt;
@@ -373,6 +393,7 @@ module _ {D : Type 0} (bytes : D → ToldFiles) (can_fail : D → Type 0) (fault
         rises = fails.rises;
         stays = tt;
         keeps = tt;
+        making = kept_making (KeepsBehind Stat (shape_in old) (shape_in left)) result _ keeps;
       }
 
       pub chore_caused : (chore : code_chore.Chore) → AnswersSaid bytes session (Said.chore (chore_of chore)) old (reply_of result) left

@@ -9,6 +9,7 @@ pub mod Begun
 pub mod Hearing
 pub mod Portioned
 pub mod Moved
+pub mod Making
 pub mod Gets
 pub mod Lacking
 pub mod Reasoned
@@ -21,6 +22,7 @@ pub mod Copied
 pub mod Ran
 pub mod Histories
 pub mod Caused
+pub mod Arms
 pub mod Cached
 pub mod CachedLists
 pub mod Caches

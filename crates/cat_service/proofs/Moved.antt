@@ -62,9 +62,14 @@ none_taken c r next new other a commit ok = absurd (true≢false (sym (commit_fl
 refused : {M : Type 0} (r : Reply) (e : Refusal) (a : Answer) → r ≡ Err e → r ≡ Ok a → M
 refused r e a is ok = absurd (let no : ◌≡◌ {A = Reply} (Err e) (Ok a) = sym is ∙ ok in cc)
 
--- a merge was begun, as the reply tells
-abbrev pub IsBegunBy : Reply → Type 0
-IsBegunBy r = (k : ℕ) × (r ≡ Ok (Answer.news (News.begun_merge k)))
+-- a chore, which alone may begin, move or end a merge
+abbrev pub is_chore : Command → Bool
+is_chore (Command.chore what) = true
+is_chore c = false
+
+-- another line that isn't refused leaves the merge in the making
+abbrev pub LeavesMaking : Command → Reply → Ledger → Ledger → Type 0
+LeavesMaking c r l new = is_chore c ≡ false → ((e : Refusal) × (r ≡ Err e)) ⊎ (new.merging ≡ l.merging)
 
 -- so is all that a standing tells of it, but for the numbers that come next and the writes
 pub record Moved (c : Command) (r : Reply) (l new : Ledger) : Type 0 where
@@ -72,10 +77,10 @@ pub record Moved (c : Command) (r : Reply) (l new : Ledger) : Type 0 where
   pub segments : SegmentsGo r (portions_told l.portions) l.next_segment (length l.buffered) (portions_told new.portions) new.next_segment
   pub flushed : IsFlushedBy c r new.buffered
   pub waits : length new.buffered ≤ length l.buffered + writes_by c r
-  pub merges : l.merging ≡ None → (new.merging ≡ None) ⊎ IsBegunBy r
+  pub making : LeavesMaking c r l new
 
 -- what a flush, or nothing, makes of it
-record Flows (l new : Ledger) : Type 0 where
+pub record Flows (l new : Ledger) : Type 0 where
   segments : SegmentsFlow (portions_told l.portions) l.next_segment (length l.buffered) (portions_told new.portions) new.next_segment
   waits : length new.buffered ≤ length l.buffered
   merging : new.merging ≡ l.merging
@@ -127,7 +132,7 @@ module _ (c : Command) (r : Reply) (l new : Ledger) where
         new.next_segment new.next_segment f.segments (λ e. e) (falls_not (portions_told new.portions));
     flushed = flushed;
     waits = (let a = f.waits in omega (arith, a));
-    merges = λ none. inl (f.merging ∙ none);
+    making = λ other. inr f.merging;
   }
 
   -- the segments stay
@@ -143,7 +148,7 @@ module _ (c : Command) (r : Reply) (l new : Ledger) where
     segments = stay p;
     flushed = no_flush c r new.buffered other;
     waits = (let a = ap length b in omega (arith, a));
-    merges = λ none. inl (m ∙ none);
+    making = λ other. inr m;
   }
 
   -- a write more
@@ -160,7 +165,7 @@ module _ (c : Command) (r : Reply) (l new : Ledger) where
         (let a = ap (λ (x : Ledger). length x.buffered) is in
         let b = put_more w in
         let d = f.waits in omega (arith, a, b, d, one));
-    merges = λ none. inl (ap (λ (x : Ledger). x.merging) is ∙ f.merging ∙ none);
+    making = λ other. inr (ap (λ (x : Ledger). x.merging) is ∙ f.merging);
   }
     where
       put_more : (w : Write) → length ((wrote mid w).buffered) ≤ length mid.buffered + 1
@@ -187,14 +192,14 @@ module _ (policy : MergePolicy) (s : ℕ) (r : Reply) (l new : Ledger) where
     segments = stay (Command.chore Chore.merge) r l new (ap (λ (x : Ledger). x.portions) m.3.rest);
     flushed = no_flush (Command.chore Chore.merge) r new.buffered refl;
     waits = (let a = ap (λ (x : Ledger). length x.buffered) m.3.rest in omega (arith, a));
-    merges = λ none. inr (k, is);
+    making = λ other. absurd (true≢false other);
   }
   maintains Chore.merge (News.copied n) making is m = record {
     taken = none_taken (Command.chore Chore.merge) r l.next_generation new.next_generation refl;
     segments = stay (Command.chore Chore.merge) r l new (ap (λ (x : Ledger). x.portions) m.1.rest);
     flushed = no_flush (Command.chore Chore.merge) r new.buffered refl;
     waits = (let a = ap (λ (x : Ledger). length x.buffered) m.1.rest in omega (arith, a));
-    merges = λ none. absurd (let no : None ≡ Some m.0 = sym none ∙ m.1.making in cc);
+    making = λ other. absurd (true≢false other);
   }
   maintains Chore.merge News.done making is m = record {
     taken = none_taken (Command.chore Chore.merge) r l.next_generation new.next_generation refl;
@@ -203,7 +208,7 @@ module _ (policy : MergePolicy) (s : ℕ) (r : Reply) (l new : Ledger) where
         (merge_goes r m.0 l.portions l.next_segment (length l.buffered) new.next_segment is (subst (IsMerging l.portions) m.1.making making));
     flushed = no_flush (Command.chore Chore.merge) r new.buffered refl;
     waits = (let a = ap (λ (x : Ledger). length x.buffered) m.1.rest in omega (arith, a));
-    merges = λ none. inl (ap (λ (x : Ledger). x.merging) m.1.rest);
+    making = λ other. absurd (true≢false other);
   }
   maintains Chore.force News.idle making is m = same Chore.force m.2
   maintains Chore.force News.busy making is m = same Chore.force m.1
@@ -212,7 +217,7 @@ module _ (policy : MergePolicy) (s : ℕ) (r : Reply) (l new : Ledger) where
     segments = stay (Command.chore Chore.force) r l new (ap (λ (x : Ledger). x.portions) m.2.rest);
     flushed = no_flush (Command.chore Chore.force) r new.buffered refl;
     waits = (let a = ap (λ (x : Ledger). length x.buffered) m.2.rest in omega (arith, a));
-    merges = λ none. inr (k, is);
+    making = λ other. absurd (true≢false other);
   }
   maintains Chore.sweep (News.swept n) making is m =
       still (Command.chore Chore.sweep) r l new refl (ap (λ (x : Ledger). x.portions) m.rest) (ap (λ (x : Ledger). x.buffered) m.rest) (ap (λ (x : Ledger). x.merging) m.rest)
@@ -220,7 +225,7 @@ module _ (policy : MergePolicy) (s : ℕ) (r : Reply) (l new : Ledger) where
 
 -- ---- what answers a command
 
-by_bool : {M : Type 0} (b : Bool) (A B : Type 0) → (A → M) → (B → M) → cond b A B → M
+pub by_bool : {M : Type 0} (b : Bool) (A B : Type 0) → (A → M) → (B → M) → cond b A B → M
 by_bool true A B f g x = f x
 by_bool false A B f g x = g x
 
@@ -304,7 +309,7 @@ module _ (policy : MergePolicy) (s : ℕ) (r : Reply) (l new : Ledger) where
             (same_falls m.0.portions new.portions (ap (λ (x : Ledger). x.portions) m.2.rest));
         flushed = λ a flush ok. ap (λ (x : Ledger). length x.buffered) m.2.rest ∙ flushes_all l m.0 m.1;
         waits = (let a = ap (λ (x : Ledger). length x.buffered) m.2.rest in let b = f.waits in omega (arith, a, b));
-        merges = λ none. inl (ap (λ (x : Ledger). x.merging) m.2.rest ∙ f.merging ∙ none);
+        making = λ other. inr (ap (λ (x : Ledger). x.merging) m.2.rest ∙ f.merging);
       }
   carries_out Command.snapshot making m = snaps r m.1
   carries_out (Command.release_snapshot g) making m = by_bool (ltb 0 (snapshots_in l.taken g)) _ _
@@ -315,7 +320,7 @@ module _ (policy : MergePolicy) (s : ℕ) (r : Reply) (l new : Ledger) where
 
 -- ---- what stops a command
 
-halted : (schema : Schema) (l : Ledger) (s : ℕ) (c : Command) (r : Reply) → Halts schema (state_of l) s c r → (e : Refusal) × (r ≡ Err e)
+pub halted : (schema : Schema) (l : Ledger) (s : ℕ) (c : Command) (r : Reply) → Halts schema (state_of l) s c r → (e : Refusal) × (r ≡ Err e)
 halted schema l s c r (inl x) = (Memory, x.0)
 halted schema l s c r (inr x) = (x.0.0, x.0.1)
 
@@ -325,9 +330,7 @@ left_moves c r l new (e, is) h =
     let p : h.ended.portions ≡ h.flushed.portions = elim h.merge [ inl k ↦ ap (λ (x : Ledger). x.portions) k | inr k ↦ ap (λ (x : Ledger). x.portions) k.1.rest ] in
     let b : h.ended.buffered ≡ h.flushed.buffered = elim h.merge [ inl k ↦ ap (λ (x : Ledger). x.buffered) k | inr k ↦ ap (λ (x : Ledger). x.buffered) k.1.rest ] in
     let n : h.ended.next_segment ≡ h.flushed.next_segment =
-    elim h.merge [ inl k ↦ ap (λ (x : Ledger). x.next_segment) k | inr k ↦ ap (λ (x : Ledger). x.next_segment) k.1.rest ] in
-    let m : h.flushed.merging ≡ None → h.ended.merging ≡ None =
-    λ none. elim h.merge [ inl k ↦ ap (λ (x : Ledger). x.merging) k ∙ none | inr k ↦ ap (λ (x : Ledger). x.merging) k.1.rest ] in record {
+    elim h.merge [ inl k ↦ ap (λ (x : Ledger). x.next_segment) k | inr k ↦ ap (λ (x : Ledger). x.next_segment) k.1.rest ] in record {
       taken = λ a commit ok. refused r e a is ok;
       segments =
           flow_goes r (portions_told l.portions) (portions_told h.flushed.portions) (portions_told new.portions) l.next_segment (length l.buffered)
@@ -335,7 +338,7 @@ left_moves c r l new (e, is) h =
           (same_falls h.flushed.portions new.portions (ap (λ (x : Ledger). x.portions) h.rest.rest ∙ p));
       flushed = λ a flush ok. refused r e a is ok;
       waits = (let x = ap (λ (x : Ledger). length x.buffered) h.rest.rest in let y = ap length b in let z = f.waits in omega (arith, x, y, z));
-      merges = λ none. inl (ap (λ (x : Ledger). x.merging) h.rest.rest ∙ m (f.merging ∙ none));
+      making = λ other. inl (e, is);
     }
 
 none_moves : (c : Command) (r : Reply) (l new : Ledger) → FindsNone l c r new → Moved c r l new

@@ -1,15 +1,17 @@
 -- What is told of the segments that stand, from the ledger's portions: how their live rows fall, and how many items there are.
-use Rattle.std.proofs.Common.{◌≡◌, ℕ, suc, ◌+◌, ◌<◌, ◌≤◌, List, [], ◌∷◌, ◌++◌, length, map, take, drop, sum, Bool, true, false, cond, refl, sym, ◌∙◌, ap, subst, arith, inl, inr}
-use Rattle.std.specs.Prelude.{◌⊎◌, ◌&&◌, count_by, not, Ok}
+use Rattle.std.proofs.Common.{◌≡◌, ℕ, suc, ◌+◌, ◌<◌, ◌≤◌, List, [], ◌∷◌, ◌++◌, length, map, take, drop, sum, zero, Bool, true, false, cond, refl, sym, ◌∙◌, ap, subst, arith, inl, inr}
+use Rattle.std.specs.Prelude.{◌⊎◌, ◌&&◌, All, count_by, not, Ok}
 use Rattle.std.specs.List.{AllByRecursion}
 use Rattle.std.proofs.lemmas.List.{drop-drop, length-append, length-map, map-append, take-append-drop}
+use Rattle.std.proofs.lemmas.List.Elements.{All-from_recursion}
 use Rattle.std.proofs.lemmas.List.Sums.{sum_by-cons}
 use Rattle.cat_model.specs.Item.{Record, Schema}
 use Rattle.cat_model.specs.Run.{Answer, News, Reply, SegmentStat}
 use Rattle.cat_model.specs.Standings.{LiveRowsFall}
 use Rattle.cat_model.specs.View.{Leaf, row_of, selected}
 use Rattle.cat_model.specs.Write.{Write, removes}
-use Rattle.cat_ledger_laws.specs.model.Portions.{IsMergingOf, Merging, Portion, Reduced, all_live, installed, leaf_of, live_after, live_records, merged, portion_window_now, portions_after, records_of, settled}
+use Rattle.cat_ledger_laws.specs.model.Plans.{sizes_of}
+use Rattle.cat_ledger_laws.specs.model.Portions.{IsMergingOf, Merging, Portion, Reduced, all_live, all_records, installed, leaf_of, live_after, live_records, lives_of, merged, portion_window_now, portions_after, records_of, settled}
 
 -- ---- what is told
 
@@ -28,7 +30,7 @@ portions_told ps = map portion_told ps
 abbrev pub flushed_told : (next waiting : ℕ) → SegmentStat
 flushed_told next waiting = record { number = next; rows = waiting; live = waiting }
 
--- Why the segments change, as a standing says it. Live rows fall, and nothing else does; or before that one segment more came, of all that
+-- Why the segments change, but for which merge ends. Live rows fall, and nothing else does; or before that one segment more came, of all that
 -- waited, under the next number; or some that stood side by side became one or none, as is told.
 abbrev pub SegmentsGo : Reply → (old : List SegmentStat) → (next waiting : ℕ) → (new : List SegmentStat) → (after : ℕ) → Type 0
 SegmentsGo r old next waiting new after = (mid : List SegmentStat) × LiveRowsFall mid new × ((mid ≡ old)
@@ -103,12 +105,80 @@ parted n m xs =
     sym (take-append-drop n xs)
     ∙ ap (λ ys. take n xs ++ ys) (sym (take-append-drop m (drop n xs)) ∙ ap (λ ys. take m (drop n xs) ++ ys) (drop-drop m n xs))
 
-told_parts : (xs ys zs : List Portion) → portions_told (xs ++ (ys ++ zs)) ≡ portions_told xs ++ (portions_told ys ++ portions_told zs)
+pub told_parts : (xs ys zs : List Portion) → portions_told (xs ++ (ys ++ zs)) ≡ portions_told xs ++ (portions_told ys ++ portions_told zs)
 told_parts xs ys zs = map-append portion_told xs (ys ++ zs) ∙ ap (λ l. portions_told xs ++ l) (map-append portion_told ys zs)
 
 one_at_most : (rs : List Record) (p : Portion) → length (merged rs p) ≤ 1
 one_at_most [] p = omega arith
 one_at_most (r ∷ rs) p = omega arith
+
+pub rows_told : (ps : List Portion) → map (λ (x : SegmentStat). x.rows) (portions_told ps) ≡ sizes_of ps
+rows_told [] = refl
+rows_told (p ∷ ps) = ap (λ ns. length p.records ∷ ns) (rows_told ps)
+
+pub rows_summed : (ps : List Portion) → length (all_records ps) ≡ sum (sizes_of ps)
+rows_summed [] = refl
+rows_summed (p ∷ ps) =
+    let a = length-append p.records (all_records ps) in
+    let b = sum_by-cons (λ (n : ℕ). n) (length p.records) (sizes_of ps) in
+    let h = rows_summed ps in omega (arith, a, b, h)
+
+-- segments in which rows were deleted have as many rows
+reduced_sizes : (ps qs : List Portion) → Reduced ps qs → sizes_of qs ≡ sizes_of ps
+reduced_sizes [] [] h = refl
+reduced_sizes [] (q ∷ qs) h = absurd h
+reduced_sizes (p ∷ ps) [] h = absurd h
+reduced_sizes (p ∷ ps) (q ∷ qs) h = ap (λ (rs : List Record). length rs ∷ sizes_of qs) h.1 ∙ ap (λ ns. length p.records ∷ ns) (reduced_sizes ps qs h.3)
+
+-- of the rows that the inputs have as many as the merge
+pub taken_rows : (m : Merging) (ps : List Portion) → IsMergingOf ps m
+    → sum (map (λ (x : SegmentStat). x.rows) (portions_told (portion_window_now m ps))) ≡ length (all_records m.inputs)
+taken_rows m ps h =
+    ap sum (rows_told (portion_window_now m ps) ∙ reduced_sizes m.inputs (portion_window_now m ps) h.stand) ∙ sym (rows_summed m.inputs)
+
+fewer_taken : {X : Type 0} (n : ℕ) (xs : List X) → length (take n xs) ≤ length xs
+fewer_taken zero xs = omega arith
+fewer_taken (suc n) [] = omega arith
+fewer_taken (suc n) (x ∷ xs) = let h = fewer_taken n xs in omega (arith, h)
+
+fewer_selected : (bs : List Bool) (rs : List Record) → length (selected bs rs) ≤ length rs
+fewer_selected [] rs = omega arith
+fewer_selected (b ∷ bs) [] = omega arith
+fewer_selected (true ∷ bs) (r ∷ rs) = let h = fewer_selected bs rs in omega (arith, h)
+fewer_selected (false ∷ bs) (r ∷ rs) = let h = fewer_selected bs rs in omega (arith, h)
+
+-- and no more rows are kept
+kept_rows : (m : Merging) (ps : List Portion) → IsMergingOf ps m → length m.kept ≤ length (all_records m.inputs)
+kept_rows m ps h =
+    let a = ap length h.kept in
+    let b = fewer_selected (take m.passed (lives_of m.inputs)) (take m.passed (all_records m.inputs)) in
+    let d = fewer_taken m.passed (all_records m.inputs) in omega (arith, a, b, d)
+
+made_of : (P : SegmentStat → Type 0) (rs : List Record) (p : Portion) → P (portion_told p) → All P (portions_told (merged rs p))
+made_of P [] p h = All-from_recursion P [] tt
+made_of P (r ∷ rs) p h = All-from_recursion P (portion_told p ∷ []) (h, tt)
+
+-- the segment that is made has the merge's number, and no more rows
+pub made_so : (m : Merging) (ps : List Portion) → IsMergingOf ps m
+    → All (λ (x : SegmentStat). (x.number ≡ m.number) × (x.rows ≤ length (all_records m.inputs))) (portions_told (merged m.kept (settled m ps)))
+made_so m ps h =
+    made_of (λ (x : SegmentStat). (x.number ≡ m.number) × (x.rows ≤ length (all_records m.inputs))) m.kept (settled m ps) (refl, kept_rows m ps h)
+
+-- what stands before the inputs, the inputs as they stand now, and the rest
+pub parts_of : (m : Merging) (ps : List Portion) → portions_told ps
+    ≡ portions_told (take m.index ps) ++ (portions_told (portion_window_now m ps) ++ portions_told (drop (m.index + length m.inputs) ps))
+parts_of m ps =
+    ap portions_told (parted m.index (length m.inputs) ps) ∙ told_parts (take m.index ps) (portion_window_now m ps) (drop (m.index + length m.inputs) ps)
+
+pub some_taken : (m : Merging) (ps : List Portion) → IsMergingOf ps m → 0 < length (portions_told (portion_window_now m ps))
+some_taken m ps h =
+    let a = reduced_length m.inputs (portion_window_now m ps) h.stand in
+    let b = length-map (portion_window_now m ps) portion_told in
+    let d = h.some in omega (arith, a, b, d)
+
+pub one_made : (m : Merging) (ps : List Portion) → length (portions_told (merged m.kept (settled m ps))) ≤ 1
+one_made m ps =
+    let a = one_at_most m.kept (settled m ps) in let b = length-map (merged m.kept (settled m ps)) portion_told in omega (arith, a, b)
 
 -- the inputs, some that stand side by side, become one or none
 pub merge_goes : (r : Reply) (m : Merging) (ps : List Portion) (next waiting after : ℕ) → r ≡ Ok (Answer.news News.done) → IsMergingOf ps m
@@ -122,11 +192,10 @@ merge_goes r m ps next waiting after is h = (
     portions_told (merged m.kept (settled m ps)),
     portions_told (drop (m.index + length m.inputs) ps),
     is,
-    ap portions_told (parted m.index (length m.inputs) ps)
-        ∙ told_parts (take m.index ps) (portion_window_now m ps) (drop (m.index + length m.inputs) ps),
+    parts_of m ps,
     told_parts (take m.index ps) (merged m.kept (settled m ps)) (drop (m.index + length m.inputs) ps),
-    (let a = reduced_length m.inputs (portion_window_now m ps) h.stand in let b = length-map (portion_window_now m ps) portion_told in let d = h.some in omega (arith, a, b, d)),
-    (let a = one_at_most m.kept (settled m ps) in let b = length-map (merged m.kept (settled m ps)) portion_told in omega (arith, a, b)),
+    some_taken m ps h,
+    one_made m ps,
   )),
 )
 

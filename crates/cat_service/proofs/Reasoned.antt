@@ -25,21 +25,23 @@ use Rattle.cat_commands.specs.cat_ledger.Lasting.{AlwaysTells}
 use Rattle.cat_commands.specs.cat_ledger_state.Cores.{HasRowsLeft, MayNotFlush}
 use Rattle.cat_commands.specs.cat_ledger.upkeep.Due.{IsMergeDue}
 use Rattle.cat_commands.specs.ledger.Chores.{pending_in, segment_told, stat_in}
-use Rattle.cat_ledger_laws.specs.lines.PlanLaws.{TellsForce, TellsMerge, live_sets_in, sizes_in}
+use Rattle.cat_ledger_laws.specs.lines.PlanLaws.{live_sets_in, sizes_in}
 use Rattle.cat_ledger_laws.specs.lines.RunLaws.{ReplyLike, IsShown, Stands}
 use Rattle.cat_ledger_laws.specs.model.Ledger.{Ledger, table_of, view_shown}
-use Rattle.cat_ledger_laws.specs.model.Plans.{MayBeForced}
+use Rattle.cat_ledger_laws.specs.model.Plans.{MayBeForced, MergePolicy}
 use Rattle.cat_ledger_laws.specs.model.Portions.{ArePortions, Merging, records_of}
 use Rattle.cat_ledger_laws.specs.shape.Shapes.{MergingShape, Shape, merging_shape, recorded_view, shape_of as shape_of_ledger}
 use Rattle.cat_ledger_laws.specs.shape.Ties.{ToldFiles}
 use Rattle.cat_service.proofs.Gets.{damaged_get}
+use Rattle.cat_ledger_laws.proofs.shape.MergeShapes.{many_shown}
 use Rattle.cat_service.proofs.Lacking.{no_input_lacks}
+use Rattle.cat_service.proofs.Making.{KeepsMaking, Moves, SegmentsStand, is_merge, ledger_standing, merge_moves, merge_told, segments_stand, standing_over}
 use Rattle.cat_service.proofs.Moved.{Moved, calls_move, commits, flushes, writes_by}
 use Rattle.cat_service.proofs.Portioned.{SegmentsGo, leaves_told, live_told, portions_told}
 use Rattle.cat_service.specs.Causes.{IsCountedTo, IsDamagedTo, IsSpentTo, SweepsSo, TakesNumbers, TellsSo}
 use Rattle.cat_service.specs.Lines.{IsCommandOf}
 use Rattle.cat_service.specs.Reasons.{IsCausedBy, progress_of, standing_of_service}
-use Rattle.cat_model.specs.Standings.{Cache, CacheMoves, ForceTells, HasNoRoom, HasReason, IsDamagedFor, IsSpentFor, IsToForce, IsToldOf, IsToMerge, MergeTells, MovesOn, Progress, Standing, segment_rows}
+use Rattle.cat_model.specs.Standings.{Cache, CacheMoves, HasNoRoom, HasReason, IsDamagedFor, IsSpentFor, IsToForce, IsToldOf, IsToMerge, MergeMoves, MovesOn, Progress, Standing, segment_rows}
 use Rattle.cat_service.specs.Worlds.{Service, device_of, policy_of, shape_of_service}
 
 -- ---- replies that are alike
@@ -94,16 +96,9 @@ some_waits (r ∷ rs) some = omega arith
 none_passes : (m : Option MergingShape) → m ≡ None → option_map progress_of m ≡ None
 none_passes m e = ap (option_map progress_of) e
 
-passes : (m : Option MergingShape) (x : MergingShape) → m ≡ Some x → option_map progress_of m ≡ Some (progress_of x)
-passes m x e = ap (option_map progress_of) e
-
-rows_left : (m : Option MergingShape) → HasRowsLeft m → (p : Progress) × (option_map progress_of m ≡ Some p) × (p.passed < p.rows)
+rows_left : (m : Option MergingShape) → HasRowsLeft m → (p : ℕ × Progress) × (option_map progress_of m ≡ Some p) × (p.1.passed < p.1.rows)
 rows_left None h = absurd h
 rows_left (Some m) h = (progress_of m, refl, h)
-
-some_passes : (m : Option MergingShape) → m ≢ None → (p : Progress) × (option_map progress_of m ≡ Some p)
-some_passes None some = absurd (some refl)
-some_passes (Some m) some = (progress_of m, refl)
 
 module _ {D : Type 0} (bytes : D → ToldFiles) (can_fail : D → Type 0) (faults : D → ℕ) (old : Service D) (tried : List ℕ) (cache : Cache) where
   abbrev s : Shape
@@ -214,39 +209,8 @@ module _ {D : Type 0} (bytes : D → ToldFiles) (can_fail : D → Type 0) (fault
 
   -- ---- what is told
 
-  merge_told : (n : News) → TellsMerge (policy_of old) s n → MergeTells (policy_of old).factor (policy_of old).least st n
-  merge_told News.idle m = (none_passes s.merging m.0, subst (λ ns. IsWindow (policy_of old).factor (policy_of old).least ns None) (sym sizes) m.1)
-  merge_told (News.begun_merge k) m = (to_merge (m.0, m.2, m.3), m.1)
-  merge_told (News.copied n) m = (progress_of m.0, passes s.merging m.0 m.1, m.2, m.3)
-  merge_told News.done m = (progress_of m.0, passes s.merging m.0 m.1, m.2)
-  merge_told News.busy m = absurd m
-  merge_told News.begun_warming m = absurd m
-  merge_told (News.warmed r) m = absurd m
-  merge_told News.stored m = absurd m
-  merge_told (News.swept n) m = absurd m
-  merge_told (News.state x) m = absurd m
-
-  force_told : (n : News) → TellsForce s n → ForceTells st n
-  force_told News.idle m = (
-    none_passes s.merging m.0,
-    λ two few. m.1 (record {
-      some = (let a = length-map s.leaves (λ (leaf : Leaf). length leaf.segment.rows) in let c = many in omega (arith, a, c, two));
-      useful = λ one. absurd (let a = length-map s.leaves (λ (leaf : Leaf). length leaf.segment.rows) in let c = many in omega (arith, a, c, two, one));
-      few = subst (λ ns. sum ns ≤ row_limit) sizes few;
-    }),
-  )
-  force_told News.busy m = some_passes s.merging m
-  force_told (News.begun_merge k) m = (to_force m.0 m.2, m.1 ∙ sym many)
-  force_told (News.copied n) m = absurd m
-  force_told News.done m = absurd m
-  force_told News.begun_warming m = absurd m
-  force_told (News.warmed r) m = absurd m
-  force_told News.stored m = absurd m
-  force_told (News.swept n) m = absurd m
-  force_told (News.state x) m = absurd m
-
   abbrev Told : Command → Reply → Type 0
-  Told c r = IsToldOf (policy_of old).factor (policy_of old).least st c r
+  Told c r = IsToldOf st c r
 
   commit_told : (sets left : Filters) (said : Text) (text : Result Text Refusal) (r : Reply) → TellsSo (policy_of old) s sets left (Some (Said.commit said)) r → Told (Command.commit text) r
   commit_told sets left said text (Ok (Answer.number g)) m = m
@@ -257,8 +221,8 @@ module _ {D : Type 0} (bytes : D → ToldFiles) (can_fail : D → Type 0) (fault
   commit_told sets left said text (Err e) m = tt
 
   chore_told : (sets left : Filters) → length cache.sets ≡ length sets.cached → (what : Chore) (r : Reply) → TellsSo (policy_of old) s sets left (Some (Said.chore what)) r → Told (Command.chore what) r
-  chore_told sets left counts Chore.merge (Ok (Answer.news n)) m = merge_told n m
-  chore_told sets left counts Chore.force (Ok (Answer.news n)) m = force_told n m
+  chore_told sets left counts Chore.merge (Ok (Answer.news n)) m = tt
+  chore_told sets left counts Chore.force (Ok (Answer.news n)) m = tt
   chore_told sets left counts Chore.warm (Ok (Answer.news n)) m = tt
   chore_told sets left counts Chore.sweep (Ok (Answer.news n)) m = m
   chore_told sets left counts Chore.stat (Ok (Answer.news n)) m = m ∙ ap (λ k. News.state (stat_in k s)) (sym counts)
@@ -428,19 +392,45 @@ sources_move c l new a b m = record {
   segments = sources_go a b (portions_told l.portions) (portions_told new.portions) l.next_segment (length l.buffered) new.next_segment m.segments;
   flushed = λ x flush ok. m.flushed (Answer.found (Found.source (Some a))) flush refl;
   waits = subst (λ n. length new.buffered ≤ length l.buffered + n) (sources_write c (Found.source (Some a)) (Found.source (Some b))) m.waits;
-  merges = λ none. elim (m.merges none) [
-    | inl gone ↦ inl gone
-    | inr begun ↦ absurd (let no : ◌≡◌ {A = Reply} (Ok (Answer.found (Found.source (Some a)))) (Ok (Answer.news (News.begun_merge begun.0))) = begun.1 in cc)
+  making = λ other. elim (m.making other) [
+    | inl refused ↦ absurd (let no : ◌≡◌ {A = Reply} (Ok (Answer.found (Found.source (Some a)))) (Err refused.0) = refused.1 in cc)
+    | inr same ↦ inr same
   ];
 }
 
-merging_told : (schema : Schema) (m : Option Merging) (x : Option MergingShape) → merging_shape schema m ≡ x → option_map progress_of x ≡ None → m ≡ None
-merging_told schema None x e none = refl
-merging_told schema (Some m) x e none =
-    absurd (let no : option_map progress_of (merging_shape schema (Some m)) ≡ None = ap (option_map progress_of) e ∙ none in cc)
+-- and of the merge in the making
+sources_make : (policy : MergePolicy) (s : Standing) (c : Command) (a b : Text) (new : Option (ℕ × Progress))
+    → MergeMoves policy.factor policy.least s c (Ok (Answer.found (Found.source (Some a)))) new
+    → MergeMoves policy.factor policy.least s c (Ok (Answer.found (Found.source (Some b)))) new
+sources_make policy s Command.formless a b new h = h
+sources_make policy s (Command.put item) a b new h = h
+sources_make policy s (Command.delete id) a b new h = h
+sources_make policy s (Command.delete_where q) a b new h = h
+sources_make policy s Command.refresh a b new h = h
+sources_make policy s Command.open_newest a b new h = h
+sources_make policy s (Command.open_at t) a b new h = h
+sources_make policy s (Command.close t) a b new h = h
+sources_make policy s (Command.read t asked) a b new h = h
+sources_make policy s (Command.prune n) a b new h = h
+sources_make policy s (Command.commit text) a b new h = h
+sources_make policy s Command.snapshot a b new h = h
+sources_make policy s (Command.release_snapshot n) a b new h = h
+sources_make policy s (Command.files_of_token t) a b new h = h
+sources_make policy s (Command.files_of_commit n) a b new h = h
+sources_make policy s (Command.text_of_commit n) a b new h = h
+sources_make policy s (Command.chore Chore.merge) a b new h = h
+sources_make policy s (Command.chore Chore.force) a b new h = h
+sources_make policy s (Command.chore Chore.warm) a b new h = h
+sources_make policy s (Command.chore Chore.sweep) a b new h = h
+sources_make policy s (Command.chore Chore.stat) a b new h = h
 
-merging_gone : (schema : Schema) (m : Option Merging) (x : Option MergingShape) → merging_shape schema m ≡ x → m ≡ None → option_map progress_of x ≡ None
-merging_gone schema m x e none = sym (ap (option_map progress_of) e) ∙ ap (λ o. option_map progress_of (merging_shape schema o)) none
+-- the merge of a ledger is told as memory has it
+merging_shown : (schema : Schema) (m : Option Merging) → option_map progress_of (merging_shape schema m) ≡ merge_told m
+merging_shown schema None = refl
+merging_shown schema (Some m) = ap (λ n. Some (m.number, record { passed = m.passed; rows = n })) (many_shown schema m.inputs)
+
+making_told : (l : Ledger) (s : Shape) → shape_of_ledger l ≡ s → merge_told l.merging ≡ option_map progress_of s.merging
+making_told l s is = sym (merging_shown l.schema l.merging) ∙ ap (λ (x : Shape). option_map progress_of x.merging) is
 
 -- the segments that a ledger stands for are told as memory has them
 shapes_told : (l : Ledger) (s : Shape) → shape_of_ledger l ≡ s → portions_told l.portions ≡ map segment_told s.leaves
@@ -454,14 +444,6 @@ items_told l s is whole =
     let b = ap (λ (xs : List SegmentStat). sum (map (λ (x : SegmentStat). x.live) xs)) (shapes_told l s is) in
     let d = live_told l.portions whole.lengths in
     let e = length-append (records_of l.portions) l.buffered in omega (arith, a, b, d, e)
-
-segments_over : (r : Reply) (old old' new new' : List SegmentStat) (next next' waiting waiting' after after' : ℕ) → old ≡ old' → new ≡ new' → next ≡ next'
-    → waiting ≡ waiting' → after ≡ after' → SegmentsGo r old next waiting new after → SegmentsGo r old' next' waiting' new' after'
-segments_over r old old' new new' next next' waiting waiting' after after' is made number many behind h =
-    subst (λ k. SegmentsGo r old' next' waiting' new' k) behind
-    (subst (λ k. SegmentsGo r old' next' k new' after) many
-    (subst (λ n. SegmentsGo r old' n waiting new' after) number
-    (subst (λ xs. SegmentsGo r old' next waiting xs after) made (subst (λ xs. SegmentsGo r xs next waiting new after) is h))))
 
 flushes_of : (c : Command) (text : Result Text Refusal) → (c ≡ Command.refresh) ⊎ (c ≡ Command.commit text) → flushes c ≡ true
 flushes_of c text (inl is) = ap flushes is
@@ -523,31 +505,65 @@ module _ {D : Type 0} (bytes : D → ToldFiles) (can_fail : D → Type 0) (fault
       by (Some (Said.chore Chore.warm)) is m = other _ is refl
       by (Some (Said.chore Chore.stat)) is m = other _ is refl
 
+  -- how it stood, and how it stands
+  abbrev before : Service D → Standing
+  before old = standing_of_service faults cache tried old
+
+  abbrev StandOn : Service D → Service D → Reply → Type 0
+  StandOn old new r = SegmentsStand (before old) r (map segment_told (shape_of_service new).leaves) (shape_of_service new).next_segment
+
+  abbrev MakesOn : Service D → Service D → Command → Reply → Type 0
+  MakesOn old new c r =
+      MergeMoves (policy_of old).factor (policy_of old).least (before old) c r (option_map progress_of (shape_of_service new).merging)
+
+  -- what is so of the ledger's standing is so of the one that memory has
+  over : (P : Standing → Type 0) (old : Service D) (l : Ledger) → shape_of_ledger l ≡ shape_of_service old → P (ledger_standing (before old) l) → P (before old)
+  over P old l is =
+      standing_over P (before old) (portions_told l.portions) (map segment_told (shape_of_service old).leaves) (length l.buffered)
+      (length (shape_of_service old).buffered) (merge_told l.merging) (option_map progress_of (shape_of_service old).merging) l.next_segment
+      (shape_of_service old).next_segment (shapes_told l (shape_of_service old) is) (ap (λ (x : Shape). length x.buffered) is)
+      (making_told l (shape_of_service old) is) (ap (λ (x : Shape). x.next_segment) is)
+
+  stand_over : (old new : Service D) (r : Reply) (l l' : Ledger) → shape_of_ledger l ≡ shape_of_service old → shape_of_ledger l' ≡ shape_of_service new
+      → SegmentsStand (ledger_standing (before old) l) r (portions_told l'.portions) l'.next_segment → StandOn old new r
+  stand_over old new r l l' is is' h =
+      subst (λ n. SegmentsStand (before old) r (map segment_told (shape_of_service new).leaves) n) (ap (λ (x : Shape). x.next_segment) is')
+      (subst (λ xs. SegmentsStand (before old) r xs l'.next_segment) (shapes_told l' (shape_of_service new) is')
+      (over (λ s. SegmentsStand s r (portions_told l'.portions) l'.next_segment) old l is h))
+
+  makes_over : (old new : Service D) (c : Command) (r : Reply) (l l' : Ledger) → shape_of_ledger l ≡ shape_of_service old
+      → shape_of_ledger l' ≡ shape_of_service new → Moves (policy_of old) (before old) l l' c r → MakesOn old new c r
+  makes_over old new c r l l' is is' h =
+      subst (MergeMoves (policy_of old).factor (policy_of old).least (before old) c r) (making_told l' (shape_of_service new) is')
+      (over (λ s. MergeMoves (policy_of old).factor (policy_of old).least s c r (merge_told l'.merging)) old l is h)
+
+  -- a refused line that is no MERGE keeps the merge in the making
+  keeps_making : (old new : Service D) (schema : Schema) (said : Option Said) (c : Command) (r : Reply) (l l' : Ledger) → IsCommandOf schema said c
+      → shape_of_ledger l ≡ shape_of_service old → shape_of_ledger l' ≡ shape_of_service new
+      → ((e : Refusal) → r ≡ Err e → said ≢ Some (Said.chore Chore.merge) → (shape_of_service new).merging ≡ (shape_of_service old).merging)
+      → KeepsMaking (policy_of old) (before old) l l' c r
+  keeps_making old new schema said c r l l' is shaped shaped' kept differs e refused =
+      making_told l' (shape_of_service new) shaped'
+      ∙ ap (option_map progress_of)
+      (kept e refused (λ same. true≢false (sym (ap is_merge (subst (λ x. IsCommandOf schema x c) same is)) ∙ differs)))
+      ∙ sym (making_told l (shape_of_service old) shaped)
+
   -- what a call made of a ledger is made of the standing that memory has of it
   moves_on : (old new : Service D) (c : Command) (r : Reply) (l l' : Ledger) → shape_of_ledger l ≡ shape_of_service old → shape_of_ledger l' ≡ shape_of_service new
-      → TakesNumbers (shape_of_service old) (shape_of_service new) → faults (device_of old) ≤ faults (device_of new) → Moved c r l l' → Sweeps new c r → Tries tried after old new c r
+      → TakesNumbers (shape_of_service old) (shape_of_service new) → faults (device_of old) ≤ faults (device_of new) → Moved c r l l' → StandOn old new r → Sweeps new c r → Tries tried after old new c r
       → CacheMoves (standing_of_service faults cache tried old) c r (standing_of_service faults made after new)
       → MovesOn (standing_of_service faults cache tried old) c r (standing_of_service faults made after new)
-  moves_on old new c r l l' is is' numbers rises m swept tries cached = record {
+  moves_on old new c r l l' is is' numbers rises m stand swept tries cached = record {
     segment = numbers.segment;
     generation = numbers.generation;
     taken = λ text a is_commit ok.
         sym (ap (λ (x : Shape). x.next_generation) is') ∙ m.taken a (ap commits is_commit) ok ∙ ap (λ (x : Shape). x.next_generation + 1) is;
-    segments =
-        segments_over r (portions_told l.portions) (map segment_told (shape_of_service old).leaves) (portions_told l'.portions) (map segment_told (shape_of_service new).leaves)
-        l.next_segment (shape_of_service old).next_segment (length l.buffered) (length (shape_of_service old).buffered)
-        l'.next_segment (shape_of_service new).next_segment (shapes_told l (shape_of_service old) is)
-        (shapes_told l' (shape_of_service new) is') (ap (λ (x : Shape). x.next_segment) is) (ap (λ (x : Shape). length x.buffered) is)
-        (ap (λ (x : Shape). x.next_segment) is') m.segments;
+    segments = stand;
     flushed = λ text a which ok. sym (ap (λ (x : Shape). length x.buffered) is') ∙ m.flushed a (flushes_of c text which) ok;
     waits =
         (let a = ap (λ (x : Shape). length x.buffered) is in
         let b = ap (λ (x : Shape). length x.buffered) is' in
         let h = m.waits in omega (arith, a, b, h));
-    merges = λ none. elim (m.merges (merging_told l.schema l.merging (shape_of_service old).merging (ap (λ (x : Shape). x.merging) is) none)) [
-      | inl gone ↦ inl (merging_gone l'.schema l'.merging (shape_of_service new).merging (ap (λ (x : Shape). x.merging) is') gone)
-      | inr begun ↦ inr begun
-    ];
     cache = cached;
     swept = swept;
     failures = rises;
@@ -576,6 +592,14 @@ module _ {D : Type 0} (bytes : D → ToldFiles) (can_fail : D → Type 0) (fault
       let moved : Moved c answered.2 l answered.0 = calls_move (policy_of old) l answered.0 e.line answered.2 stands.carries.sound.merging answered.4 in
       let told_moved : Moved c e.reply l answered.0 =
       (alike_on (λ r. Moved c r l answered.0) (sources_move c l answered.0) e.reply answered.2 answered.3.alike).1 moved in
+      let stand : StandOn old new answered.2 =
+      stand_over old new answered.2 l answered.0 stands.carries.shape answered.5.shape
+      (segments_stand (before old) l answered.0 (policy_of old) e.line.session c answered.2 stands.carries.sound.merging moved answered.4) in
+      let makes : MakesOn old new c answered.2 =
+      makes_over old new c answered.2 l answered.0 stands.carries.shape answered.5.shape
+      (merge_moves (policy_of old) (before old) l answered.0 e.line.session c answered.2
+      (keeps_making old new schema said c answered.2 l answered.0 is stands.carries.shape answered.5.shape
+      (λ x k. cause.making x (refused_alike x e.reply answered.2 answered.3.alike k))) moved answered.4) in
       let fit_moved : Moved c fitting l answered.0 = (alike_on (λ r. Moved c r l answered.0) (sources_move c l answered.0) e.reply fitting shown.alike).0 told_moved in record {
         spent = λ k. spent_for bytes can_fail faults old tried cache schema said c is (cause.spent (refused_alike Spent e.reply fitting shown.alike k));
         counted = λ k.
@@ -586,8 +610,13 @@ module _ {D : Type 0} (bytes : D → ToldFiles) (can_fail : D → Type 0) (fault
             damaged_for bytes can_fail faults old tried cache from past e.line.session schema said c is stands (subst (λ r. Fits from past (record { line = e.line; reply = r })) k fits)
             (cause.damaged (refused_alike Damaged e.reply fitting shown.alike k));
         told =
-            (alike_on (λ r. IsToldOf (policy_of old).factor (policy_of old).least (standing_of_service faults cache tried old) c r)
+            (alike_on (λ r. IsToldOf (standing_of_service faults cache tried old) c r)
             (λ a b h. found_told bytes can_fail faults old tried cache c (Found.source (Some b))) e.reply fitting shown.alike).0 (told_for bytes can_fail faults old tried cache old.sets new.sets counts schema said c e.reply is cause.told);
+        merges =
+            (alike_on (MakesOn old new c) (λ a b h. sources_make (policy_of old) (before old) c a b (option_map progress_of (shape_of_service new).merging) h) e.reply fitting
+            shown.alike).0
+            ((alike_on (MakesOn old new c) (λ a b h. sources_make (policy_of old) (before old) c a b (option_map progress_of (shape_of_service new).merging) h) e.reply
+            answered.2 answered.3.alike).1 makes);
         items = items_told l (shape_of_service old) stands.carries.shape stands.carries.sound.portions ∙ ap length stands.stands.shows.table_now;
         writes = ap (λ (x : Shape). x.count) (sym stands.carries.shape) ∙ stands.stands.shows.count_now;
         views =
@@ -598,6 +627,7 @@ module _ {D : Type 0} (bytes : D → ToldFiles) (can_fail : D → Type 0) (fault
             let g = length-map (view_tokens from.start past) (table_recorded from.start past) in omega (arith, a, b, d, f, g));
         moves =
             moves_on old new c fitting l answered.0 stands.carries.shape answered.5.shape numbers cause.rises fit_moved
+            ((alike_on (StandOn old new) (λ a b h. h) e.reply fitting shown.alike).0 ((alike_on (StandOn old new) (λ a b h. h) e.reply answered.2 answered.3.alike).1 stand))
             ((alike_on (Sweeps new c) (λ a b h x sweeps ok. h (Answer.found (Found.source (Some a))) sweeps refl) e.reply fitting shown.alike).0
             (swept_for old new schema said c e.reply is cause.swept))
             ((alike_on (Tries tried after old new c) (λ a b h. sources_try c old new a b h) e.reply fitting shown.alike).0 tries) cached;

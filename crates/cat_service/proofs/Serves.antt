@@ -123,6 +123,7 @@ reason_by one other f factor least from past s e new h = record {
   quiet = h.quiet;
   damaged = λ is. damaged_by one other f from past s e.line.command (h.damaged is);
   told = h.told;
+  merges = h.merges;
   items = h.items;
   writes = h.writes;
   views = h.views;

@@ -1,5 +1,6 @@
 -- Why a line is refused where an OK would fit, and what COMMIT and maintenance tell, by what memory has.
-use Rattle.std.specs.Prelude.{◌≡◌, ◌⊎◌, ℕ, ◌<◌, ◌≤◌, Option, Some, Ok, Err, IfErr, length}
+use Rattle.std.specs.Prelude.{◌≡◌, ◌≢◌, ◌⊎◌, ℕ, ◌<◌, ◌≤◌, Option, Some, Ok, Err, IfErr, length}
+use Rattle.cat_base.specs.declared.refusal.Refusal.{Refusal}
 use Rattle.cat_base.specs.declared.refusal.Refusal.TheVariants.{Damaged, Device, Memory, Spent}
 use Rattle.cat_model.specs.Heard.{commit_text_of}
 use Rattle.cat_model.specs.Limits.{buffer_limit, last_number}
@@ -114,7 +115,7 @@ KeepsIfRefused said reply s new = Unit {0}
 -- The reply has its cause in the world: 16 where a number or a limit is spent, 30 where the device can fail and its count of failures rose, 31
 -- where a file is damaged, 40 where no failure was counted, and to a GET and to a MERGE where no file is gone or short that they read, and the
 -- news as they are. Behind a SWEEP with an OK what waited is gone. No failure is forgotten, whatever is told; a COMMIT that is refused for its
--- text changes nothing; and what another refused line keeps is kept. The first three arguments say what a device tells of its files, whether
+-- text changes nothing; what another refused line keeps is kept; and no refused line but a MERGE ends the merge in the making. The first three arguments say what a device tells of its files, whether
 -- it can fail, and how many failures it has counted.
 pub record HasCause {D : Type 0} (bytes : D → ToldFiles) (can_fail : D → Type 0) (faults : D → ℕ) (old : Service D) (said : Option Said)
     (reply : Reply) (new : Service D) : Type 0 where
@@ -129,6 +130,7 @@ pub record HasCause {D : Type 0} (bytes : D → ToldFiles) (can_fail : D → Typ
   pub rises : faults (device_of old) ≤ faults (device_of new)
   pub stays : StaysIfWrong said old.ledger new.ledger
   pub keeps : KeepsIfRefused said reply (shape_of_service old) (shape_of_service new)
+  pub making : (e : Refusal) → reply ≡ Err e → said ≢ Some (Said.chore Chore.merge) → (shape_of_service new).merging ≡ (shape_of_service old).merging
 
 -- a line takes the number of one segment at most, and one generation
 pub record TakesNumbers (old new : Shape) : Type 0 where

@@ -22,8 +22,8 @@ use Rattle.cat_service.specs.Worlds.{Service, device_of, policy_of, shape_of_ser
 
 -- ---- of a world
 
-abbrev pub progress_of : MergingShape → Progress
-progress_of m = record { passed = m.passed; rows = length (rows_of_all m.inputs) }
+abbrev pub progress_of : MergingShape → ℕ × Progress
+progress_of m = (m.number, record { passed = m.passed; rows = length (rows_of_all m.inputs) })
 
 -- how a world stands, by how many failures a device has counted, which sets are cached, and which generations were tried by COMMITs that were
 -- refused

@@ -1,6 +1,7 @@
 //! Lines, answered one after another.
 ghost use Rattle.std.specs.Prelude.{◌≡◌};
 ghost use Rattle.cat_model.specs.Served.{NamesFiles};
+ghost use Rattle.cat_commands.specs.cat_ledger.Answering.{number_reply};
 ghost use Rattle.cat_commands.specs.cat_ledger.Histories.{GoesBy};
 ghost use Rattle.cat_commands.specs.cat_protocol.lines.Line.{said_of};
 ghost use Rattle.cat_commands.specs.cat_protocol.replies.Reply.{reply_of};
@@ -19,6 +20,26 @@ use cat_commands::cat_protocol::replies::{Answer, Reply};
 use cat_commands::ledger::Chore;
 use cat_directory::{Directory, Shelf};
 
+/// What a call of the ledger is answered that tells a number.
+fn number_told(number: Result<u64, Refusal>) -> Result<Answer, Refusal>
+    ensures { reply_of result ≡ number_reply number }
+{
+    match number {
+        Ok(number) => Ok(Answer::Number(number)),
+        Err(refusal) => Err(refusal),
+    }
+}
+
+/// So of how many snapshots of a commit are left.
+fn left_told(left: Result<u32, Refusal>) -> Result<Answer, Refusal>
+    ensures { reply_of result ≡ number_reply left }
+{
+    match left {
+        Ok(left) => Ok(Answer::Number(left as u64)),
+        Err(refusal) => Err(refusal),
+    }
+}
+
 impl<D: Directory + Shelf> World<D> {
     /// Answers a line, whose session stands in the reply.
     fn answer(&mut self, line: &Line) -> Result<Answer, Refusal>
@@ -31,7 +52,7 @@ impl<D: Directory + Shelf> World<D> {
             Command::Put(text) => self.answer_put(text),
             Command::Delete(id) => self.answer_delete(id),
             Command::DeleteWhere(text) => self.answer_delete_where(text),
-            Command::Refresh => self.answer_refresh(),
+            Command::Refresh => number_told(self.ledger.refresh()),
             Command::Open(token) => self.answer_open(session, token),
             Command::Close(token) => self.answer_close(session, token),
             Command::Find(find) => self.answer_find(session, find),
@@ -39,11 +60,11 @@ impl<D: Directory + Shelf> World<D> {
             Command::Get { token, id } => self.answer_get(session, token, id),
             Command::FilesOfToken(token) => self.answer_view_files(session, token),
             Command::FilesOfCommit(generation) => self.answer_commit_files(generation),
-            Command::Commit(text) => self.answer_commit(text),
+            Command::Commit(text) => number_told(self.ledger.commit(text)),
             Command::Note(generation) => self.answer_note(generation),
-            Command::Snapshot => self.answer_snapshot(),
-            Command::Unsnapshot(generation) => self.answer_unsnapshot(generation),
-            Command::Prune(count) => self.answer_prune(count),
+            Command::Snapshot => number_told(self.ledger.snapshot()),
+            Command::Unsnapshot(generation) => left_told(self.ledger.unsnapshot(generation)),
+            Command::Prune(count) => number_told(self.ledger.prune(count)),
             Command::Merge => self.answer_chore(session, Chore::Merge),
             Command::Force => self.answer_chore(session, Chore::Force),
             Command::Warm => self.answer_warm(session),

@@ -1,8 +1,7 @@
-//! Lines that keep commits, let them go, and tell of them.
+//! Lines that tell of kept commits.
 ghost use Rattle.std.specs.Prelude.{ℕ, Some};
 ghost use Rattle.cat_model.specs.Lines.{Said};
 ghost use Rattle.cat_commands.specs.cat_protocol.replies.Reply.{reply_of};
-ghost use Rattle.cat_commands.specs.cat_ledger.Histories.{GoesBy};
 ghost use Rattle.cat_service.specs.Lines.{Does};
 
 use crate::world::World;
@@ -11,30 +10,6 @@ use cat_commands::cat_protocol::replies::Answer;
 use cat_directory::{Directory, Shelf};
 
 impl<D: Directory + Shelf> World<D> {
-    /// Answers a COMMIT.
-    pub(crate) fn answer_commit(&mut self, text: &str) -> Result<Answer, Refusal>
-        ensures does { (session : ℕ) → Does D.bytes D.can_fail D.fault_count session (Some (Said.commit text.now)) self.old (reply_of result) self.new }
-        ensures history { GoesBy D.bytes D.may_leave (Some (Said.commit text.now)) (reply_of result) self.old.ledger self.new.ledger }
-    {
-        cat_commands::ledger::commit(&mut self.ledger, text)
-    }
-
-    /// Answers a SNAP.
-    pub(crate) fn answer_snapshot(&mut self) -> Result<Answer, Refusal>
-        ensures does { (session : ℕ) → Does D.bytes D.can_fail D.fault_count session (Some Said.snapshot) self.old (reply_of result) self.new }
-        ensures history { GoesBy D.bytes D.may_leave (Some Said.snapshot) (reply_of result) self.old.ledger self.new.ledger }
-    {
-        cat_commands::ledger::snapshot(&mut self.ledger)
-    }
-
-    /// Answers an UNSNAP.
-    pub(crate) fn answer_unsnapshot(&mut self, generation: Generation) -> Result<Answer, Refusal>
-        ensures does { (session : ℕ) → Does D.bytes D.can_fail D.fault_count session (Some (Said.release_snapshot generation)) self.old (reply_of result) self.new }
-        ensures history { GoesBy D.bytes D.may_leave (Some (Said.release_snapshot generation)) (reply_of result) self.old.ledger self.new.ledger }
-    {
-        cat_commands::ledger::release_snapshot(&mut self.ledger, generation)
-    }
-
     /// Answers a NOTE.
     pub(crate) fn answer_note(&self, generation: Generation) -> Result<Answer, Refusal>
         ensures does { (session : ℕ) → Does D.bytes D.can_fail D.fault_count session (Some (Said.text_of_commit generation)) self.now (reply_of result) self.now }

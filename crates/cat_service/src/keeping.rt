@@ -1,5 +1,5 @@
-//! Lines that record views and let them go, and those of maintenance.
-ghost use Rattle.std.specs.Prelude.{ℕ, Some};
+//! Lines of maintenance.
+ghost use Rattle.std.specs.Prelude.{Some};
 ghost use Rattle.cat_model.specs.Lines.{Said};
 ghost use Rattle.cat_model.specs.Run as run;
 ghost use Rattle.cat_commands.specs.ledger.Chores.{chore_of};
@@ -15,22 +15,6 @@ use cat_commands::sets::segments_are_one;
 use cat_directory::{Directory, Shelf};
 
 impl<D: Directory + Shelf> World<D> {
-    /// Answers a REFRESH.
-    pub(crate) fn answer_refresh(&mut self) -> Result<Answer, Refusal>
-        ensures does { (session : ℕ) → Does D.bytes D.can_fail D.fault_count session (Some Said.refresh) self.old (reply_of result) self.new }
-        ensures history { GoesBy D.bytes D.may_leave (Some Said.refresh) (reply_of result) self.old.ledger self.new.ledger }
-    {
-        cat_commands::ledger::refresh(&mut self.ledger)
-    }
-
-    /// Answers a PRUNE.
-    pub(crate) fn answer_prune(&mut self, count: u64) -> Result<Answer, Refusal>
-        ensures does { (session : ℕ) → Does D.bytes D.can_fail D.fault_count session (Some (Said.prune count)) self.old (reply_of result) self.new }
-        ensures history { GoesBy D.bytes D.may_leave (Some (Said.prune count)) (reply_of result) self.old.ledger self.new.ledger }
-    {
-        cat_commands::ledger::prune(&mut self.ledger, count)
-    }
-
     /// Answers a MERGE, FORCE, SWEEP or STAT.
     pub(crate) fn answer_chore(
         &mut self,

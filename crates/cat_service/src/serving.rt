@@ -65,8 +65,9 @@ fn device_left<D: Directory + Shelf>(stage: Stage<World<D>, D>) -> D
 /// the text has a line feed; else to a MERGE only where it has rows to copy. A COMMIT tells the generation that comes next,
 /// and takes it; SWEEP, STAT, MERGE, FORCE and WARM tell what is so, and behind a SWEEP with an OK no file waits to be deleted.
 /// A STAT tells as many waiting items and live rows as the table has items, and how many sets of rows are cached; a WARM tells
-/// `idle` only where each noted query has its set in each segment, and else which step it took. A COMMIT that is refused, but
-/// not for its text, takes the generation that it tried, so that no later line is told it: where such directories always tell
+/// `idle` only where each noted query has its set in each segment, and else which step it took. A merge is begun only where none
+/// is in the making, each `copied` tells more of its rows, and `done` is told once all are passed: then one segment at most
+/// stands for those that it took, and no line else takes any. A COMMIT that is refused, but not for its text, takes the generation that it tried, so that no later line is told it: where such directories always tell
 /// of their files, whatever commit a crash leaves as the newest is the last that was answered or opened, or was tried so.
 ///
 /// It flushes before each read, so that a client which waits for a reply has it. Its two buffers are taken before the first

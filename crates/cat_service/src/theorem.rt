@@ -4,6 +4,7 @@ ghost use Rattle.cat_model.specs.Calls.{CallsAreOpened, HeldReadsAgreeInCalls};
 ghost use Rattle.cat_model.specs.Found.{CallsAreFound, ReadsAgreeAfterwards};
 ghost use Rattle.cat_items.specs.Reading.{json};
 ghost use Rattle.cat_directory.specs.Names.{by_names};
+ghost use Rattle.cat_service.specs.theorem.Merges.{MergesGoOn};
 ghost use Rattle.cat_service.specs.theorem.MissingSets.{MissingSetsAreTold};
 ghost use Rattle.cat_service.specs.theorem.Openings.{DirectoriesOpenOneWay};
 
@@ -64,4 +65,22 @@ pub fn directories_open_one_way()
 /// The news of WARM are our own; Lucene caches what its `UsageTrackingQueryCachingPolicy` saw often enough, and tells nobody.
 pub fn missing_sets_are_told<D: Directory + Shelf>()
     ensures { MissingSetsAreTold json (by_names D.bytes D.may_leave D.can_fail D.fault_count) }
+{}
+
+/// What the causes of replies leave a call of `serve` to tell of merges, of lines in a row:
+///
+/// - *copied*: of two MERGEs that pass rows, with no merge begun between, the second tells more rows. So none tells `copied 256` twice.
+/// - *begun*: no merge is begun, by a MERGE or a FORCE, while one is in the making: one that was begun is told `done` first, or a MERGE
+///   is refused, which may have given it up.
+/// - *passed*: where a STAT before `begun` tells of segments that each have rows, no `done` comes before a `copied`.
+/// - *made*: where the call's first merge, of such segments, is told `done`, others stand than before: if STATs before `begun` and
+///   before `done` tell of the same segments, and the second one that nothing waits, one behind `done` tells of others.
+///
+/// So a service that tells `begun` or `copied` each time, or that merges nothing and tells `done`, has no causes for it. *Made* asks
+/// that nothing waits, since what waits may become a segment behind any line; and of later merges of a call it isn't said, as a
+/// merge that is begun needn't take its number from those that come next.
+///
+/// The news of MERGE are our own; Lucene merges in threads of its own, by a `ConcurrentMergeScheduler`, and tells nobody how far.
+pub fn merges_go_on<D: Directory + Shelf>()
+    ensures { MergesGoOn json (by_names D.bytes D.may_leave D.can_fail D.fault_count) }
 {}

@@ -1,13 +1,13 @@
 -- Where a query was found in a view of an item that was put, a set is missing, and none is cached.
-use Rattle.std.proofs.Common.{zero, suc, ◌≡◌, ℕ, ◌+◌, ◌<◌, ◌≤◌, List, [], ◌∷◌, ◌++◌, length, map, sum, take, true, false, refl, sym, ◌∙◌, ap, subst, arith, inl, inr, append-nil, append_assoc}
-use Rattle.std.specs.Prelude.{◌⊎◌, Contains, None, Some, Ok, filter, filter_map}
-use Rattle.std.specs.List.{AllByRecursion}
+use Rattle.std.proofs.Common.{◌≡◌, ℕ, ◌+◌, ◌<◌, ◌≤◌, List, [], ◌∷◌, ◌++◌, length, map, sum, take, true, false, refl, sym, ◌∙◌, ap, subst, arith, inl, inr, append-nil, append_assoc}
+use Rattle.std.specs.Prelude.{Contains, None, Some, Ok, filter, filter_map}
 use Rattle.std.proofs.lemmas.Bool.Decides.{nat_tests}
 use Rattle.std.proofs.lemmas.List.{length-append}
 use Rattle.std.proofs.lemmas.List.Elements.{Contains-append_right, filter-append}
 use Rattle.std.proofs.lemmas.List.Sums.{sum-map, sum_by-cons}
 use Rattle.cat_model.specs.Heard.{Json}
 use Rattle.cat_model.specs.Item.{Item, Record}
+use Rattle.cat_service.proofs.theorem.Growing.{AllBelow, AllFrom, Steps, apart, below_found, below_step, falls_on, from_added, from_fall, in_one, steps}
 use Rattle.cat_service.specs.theorem.MissingSets.{MissingSetsAreTold, PutAndFound, put_and_found, set_and_put, warmed, was_numbered, was_told}
 use Rattle.cat_model.specs.Query.{Query}
 use Rattle.cat_model.specs.Reasons.{IsCausedIn}
@@ -63,53 +63,6 @@ some_stands : (segments : List SegmentStat) → 0 < sum (map (λ x. x.live) segm
 some_stands [] some = absurd (omega (arith, some))
 some_stands (x ∷ segments) some = (x, (0, omega arith, refl))
 
--- the numbers of all lie below one, or none does
-abbrev AllBelow : ℕ → List SegmentStat → Type 0
-AllBelow n segments = AllByRecursion (λ (x : SegmentStat). x.number < n) segments
-
-abbrev AllFrom : ℕ → List SegmentStat → Type 0
-AllFrom n segments = AllByRecursion (λ (x : SegmentStat). n ≤ x.number) segments
-
-below_found : (n : ℕ) (segments : List SegmentStat) (x : SegmentStat) → AllBelow n segments → Contains segments x → x.number < n
-below_found n [] x all (k, within, is) = absurd (omega (arith, within))
-below_found n (y ∷ segments) x all (zero, within, is) = subst (λ (z : SegmentStat). z.number < n) is all.0
-below_found n (y ∷ segments) x all (suc k, within, is) = below_found n segments x all.1 (k, omega (arith, within), is)
-
-below_fall : (n m : ℕ) (old new : List SegmentStat) → n ≤ m → LiveRowsFall old new → AllBelow n old → AllBelow m new
-below_fall n m [] [] more falls all = tt
-below_fall n m [] (y ∷ ys) more falls all = absurd falls
-below_fall n m (x ∷ xs) [] more falls all = absurd falls
-below_fall n m (x ∷ xs) (y ∷ ys) more falls all = (
-  (let e = falls.0 in let b = all.0 in omega (arith, e, b, more)),
-  below_fall n m xs ys more falls.3 all.1,
-)
-
-below_added : (n : ℕ) (segments : List SegmentStat) (x : SegmentStat) → x.number ≡ n → AllBelow n segments → AllBelow (n + 1) (segments ++ x ∷ [])
-below_added n [] x is all = (omega (arith, is), tt)
-below_added n (y ∷ segments) x is all = ((let b = all.0 in omega (arith, b)), below_added n segments x is all.1)
-
-from_fall : (n : ℕ) (old new : List SegmentStat) → LiveRowsFall old new → AllFrom n old → AllFrom n new
-from_fall n [] [] falls all = tt
-from_fall n [] (y ∷ ys) falls all = absurd falls
-from_fall n (x ∷ xs) [] falls all = absurd falls
-from_fall n (x ∷ xs) (y ∷ ys) falls all = ((let e = falls.0 in let b = all.0 in omega (arith, e, b)), from_fall n xs ys falls.3 all.1)
-
-from_added : (n : ℕ) (segments : List SegmentStat) (x : SegmentStat) → n ≤ x.number → AllFrom n segments → AllFrom n (segments ++ x ∷ [])
-from_added n [] x is all = (is, tt)
-from_added n (y ∷ segments) x is all = (all.0, from_added n segments x is all.1)
-
-falls_on : (a b c : List SegmentStat) → LiveRowsFall a b → LiveRowsFall b c → LiveRowsFall a c
-falls_on [] [] c f g = g
-falls_on [] (y ∷ b) c f g = absurd f
-falls_on (x ∷ a) [] c f g = absurd f
-falls_on (x ∷ a) (y ∷ b) [] f g = absurd g
-falls_on (x ∷ a) (y ∷ b) (z ∷ c) f g = (
-  g.0 ∙ f.0,
-  g.1 ∙ f.1,
-  (let k = f.2 in let m = g.2 in omega (arith, k, m)),
-  falls_on a b c f.3 g.3,
-)
-
 live_more : (x : SegmentStat) (xs : List SegmentStat) → sum (map (λ x. x.live) (x ∷ xs)) ≡ x.live + sum (map (λ x. x.live) xs)
 live_more x xs = sum-map (λ (x : SegmentStat). x.live) (x ∷ xs) ∙ sum_by-cons (λ (x : SegmentStat). x.live) x xs ∙ ap (λ n. x.live + n) (sym (sum-map (λ (x : SegmentStat). x.live) xs))
 
@@ -118,16 +71,6 @@ falls_less [] [] f = omega arith
 falls_less [] (y ∷ b) f = absurd f
 falls_less (x ∷ a) [] f = absurd f
 falls_less (x ∷ a) (y ∷ b) f = (let k = f.2 in let m = falls_less a b f.3 in omega (arith, k, m, live_more x a, live_more y b))
-
--- what fell of two lists is two lists
-abbrev FallsApart : (front back new : List SegmentStat) → Type 0
-FallsApart front back new = (f b : List SegmentStat) × (new ≡ f ++ b) × LiveRowsFall front f × LiveRowsFall back b
-
-apart : (front back new : List SegmentStat) → LiveRowsFall (front ++ back) new → FallsApart front back new
-apart [] back new falls = ([], new, refl, tt, falls)
-apart (x ∷ front) back [] falls = absurd falls
-apart (x ∷ front) back (y ∷ new) falls =
-    let rest = apart front back new falls.3 in (y ∷ rest.0, rest.1, ap (λ ys. y ∷ ys) rest.2, (falls.0, falls.1, falls.2, rest.3), rest.4)
 
 -- in the row stand those that stood, with no more live rows, and behind them others with numbers from n on
 record Grows (n : ℕ) (old new : List SegmentStat) : Type 0 where
@@ -140,22 +83,6 @@ record Grows (n : ℕ) (old new : List SegmentStat) : Type 0 where
 falls_same : (a : List SegmentStat) → LiveRowsFall a a
 falls_same [] = tt
 falls_same (x ∷ a) = (refl, refl, omega arith, falls_same a)
-
--- what a line that isn't told `done` makes of the segments
-record Steps (s new : Standing) : Type 0 where
-  mid : List SegmentStat
-  falls : LiveRowsFall mid new.stat.segments
-  is : (mid ≡ s.stat.segments)
-      ⊎ ((x : SegmentStat) × (x.number ≡ s.next_segment) × (mid ≡ s.stat.segments ++ x ∷ []) × (new.next_segment ≡ s.next_segment + 1))
-  next : s.next_segment ≤ new.next_segment
-
-below_step : (s new : Standing) → Steps s new → AllBelow s.next_segment s.stat.segments → AllBelow new.next_segment new.stat.segments
-below_step s new step all = elim step.is [
-  | inl same ↦ below_fall s.next_segment new.next_segment step.mid new.stat.segments step.next step.falls (subst (AllBelow s.next_segment) (sym same) all)
-  | inr one ↦
-      below_fall (s.next_segment + 1) new.next_segment step.mid new.stat.segments (let e = one.3 in omega (arith, e)) step.falls
-      (subst (AllBelow (s.next_segment + 1)) (sym one.2) (below_added s.next_segment s.stat.segments one.0 one.1 all))
-]
 
 grows_by : (n : ℕ) (old front back new : List SegmentStat) → LiveRowsFall old front → AllFrom n back → LiveRowsFall (front ++ back) new → Grows n old new
 grows_by n old front back new falls above further =
@@ -208,10 +135,6 @@ first_noted : (q : Query) (new : List Query) → NotesQuery q [] new → new ≡
 first_noted q new (inl (within, same)) = absurd (let k : within.0 < 0 = within.1 in omega arith)
 first_noted q new (inr (none, same)) = same
 
-in_one : {X : Type 0} (x y : X) → Contains (x ∷ []) y → x ≡ y
-in_one x y (zero, within, is) = is
-in_one x y (suc k, within, is) = absurd (omega (arith, within))
-
 in_none : {X : Type 0} (xs : List X) (x : X) → xs ≡ [] → Contains xs x → ⊥
 in_none xs x e (k, within, is) = let n = ap length e in omega (arith, within, n)
 
@@ -233,17 +156,8 @@ module _ (always : Type 0) (factor least : ℕ) (from : Opened) where
   abbrev Goes : Run → Standing → Exchange → Standing → Type 0
   Goes past s e mid = HasReason always factor least from past s e mid
 
-  steps : (past : Run) (s : Standing) (e : Exchange) (new : Standing) → (e.reply ≡ Ok (Answer.news News.done) → ⊥) → Goes past s e new → Steps s new
-  steps past s e new undone h = record {
-    mid = h.moves.segments.0;
-    falls = h.moves.segments.1;
-    is = elim h.moves.segments.2 [
-      | inl same ↦ inl same
-      | inr (inl one) ↦ inr (record { number = s.next_segment; rows = s.stat.buffered; live = s.stat.buffered }, refl, one.0, one.1)
-      | inr (inr gone) ↦ absurd (undone gone.4)
-    ];
-    next = h.moves.segment.0;
-  }
+  steps_so : (past : Run) (s : Standing) (e : Exchange) (new : Standing) → (e.reply ≡ Ok (Answer.news News.done) → ⊥) → Goes past s e new → Steps s new
+  steps_so past s e new undone h = steps always factor least from past s e new undone h
 
   numbered_on : (n : ℕ) (r : Reply) → r ≡ Ok (Answer.number n) → r ≡ Ok (Answer.news News.done) → ⊥
   numbered_on n r is k = absurd (let no : ◌≡◌ {A = Reply} (Ok (Answer.number n)) (Ok (Answer.news News.done)) = sym is ∙ k in cc)
@@ -265,10 +179,10 @@ module _ (always : Type 0) (factor least : ℕ) (from : Opened) where
           cache = first_found t.query (Answer.found t.found.1) c.cache d.cache (opens.moves.cache ∙ refreshed.moves.cache ∙ put.moves.cache ∙ none) found.moves.cache;
           waits = (let k = opens.moves.waits in let m = found.moves.waits in omega (arith, empty, k, m));
           below = λ all.
-              below_step c d (steps _ c _ d (λ k. absurd (cc k)) found)
-              (below_step b c (steps _ b _ c (numbered_on t.opened.1 _ refl) opens)
-              (below_step a b (steps _ a _ b (numbered_on t.refreshed.1 _ refl) refreshed)
-              (below_step opened a (steps _ opened _ a (numbered_on t.put.1 _ refl) put) all)));
+              below_step c d (steps_so _ c _ d (λ k. absurd (cc k)) found)
+              (below_step b c (steps_so _ b _ c (numbered_on t.opened.1 _ refl) opens)
+              (below_step a b (steps_so _ a _ b (numbered_on t.refreshed.1 _ refl) refreshed)
+              (below_step opened a (steps_so _ opened _ a (numbered_on t.put.1 _ refl) put) all)));
         },
         here,
         more,
@@ -315,10 +229,10 @@ module _ (always : Type 0) (factor least : ℕ) (from : Opened) where
       -- the segments
       let n = s.next_segment in
       let start : Grows n s.stat.segments s.stat.segments = record { front = s.stat.segments; back = []; is = sym (append-nil s.stat.segments); falls = falls_same s.stat.segments; above = tt } in
-      let one = steps _ s _ a (λ k. absurd (cc k)) begun in
-      let two = steps _ a _ b (λ k. absurd (cc k)) stored in
-      let three = steps _ b _ c (numbered_on put.1 _ refl) puts in
-      let four = steps _ c _ d (numbered_on refreshed.1 _ refl) writes in
+      let one = steps_so _ s _ a (λ k. absurd (cc k)) begun in
+      let two = steps_so _ a _ b (λ k. absurd (cc k)) stored in
+      let three = steps_so _ b _ c (numbered_on put.1 _ refl) puts in
+      let four = steps_so _ c _ d (numbered_on refreshed.1 _ refl) writes in
       let grown : Grows n s.stat.segments d.stat.segments =
       grows_step n s.stat.segments c d four (let x = one.next in let y = two.next in let z = three.next in omega (arith, x, y, z))
       (grows_step n s.stat.segments b c three (let x = one.next in let y = two.next in omega (arith, x, y))

@@ -7,6 +7,13 @@ use Rattle.cat_service.specs.Worlds.{device_of, policy_of, shape_of_service}
 use Rattle.cat_service.proofs.Hearing.{open_says}
 use Rattle.cat_service.proofs.Histories.{nothing_goes}
 use Rattle.cat_service.proofs.Names.{refused}
+use Rattle.cat_model.specs.Lines.{Said}
+use Rattle.cat_commands.specs.cat_ledger.Answering.{number_reply}
+use Rattle.cat_commands.specs.cat_ledger.Ledgers.{device_in, shape_in}
+use Rattle.cat_commands.specs.cat_protocol.replies.Reply.{reply_of}
+use Rattle.cat_service.proofs.Arms.{as_answer, commit_does, plain_does, refresh_does, refused_as}
+use Rattle.cat_service.proofs.Kept.{world_stays}
+use Rattle.cat_service.proofs.Wanted.{prune_wants, snap_wants, unsnap_wants}
 use Rattle.cat_service.proofs.world.World.answer.Goals as goal
 
 pub returns-in-NoForm-clause-does : goal.returns-in-NoForm-clause-does
@@ -21,7 +28,7 @@ returns-in-NoForm-clause-does g c = rw c.in-NoForm.is (record {
   told = refused NoForm;
   names = tt;
   wanting = λ h. absurd (let no : ◌≡◌ {A = Reply} (Err NoForm) (Err Memory) = h in cc);
-  cause = record { spent = λ k. tt; device = λ k. tt; counted = λ k. tt; damaged = λ k. tt; reached = λ k. tt; quiet = λ k. refl; told = tt; swept = tt; rises = omega arith; stays = tt; keeps = tt };
+  cause = record { spent = λ k. tt; device = λ k. tt; counted = λ k. tt; damaged = λ k. tt; reached = λ k. tt; quiet = λ k. refl; told = tt; swept = tt; rises = omega arith; stays = tt; keeps = tt; making = λ e k other. refl };
   sets = refl;
   numbers = record { segment = (omega arith, omega arith); generation = (omega arith, omega arith) };
   can = λ x. x;
@@ -49,12 +56,6 @@ returns-in-DeleteWhere-clause-does g c = rw c.in-DeleteWhere.is (c.answer_delete
 
 pub returns-in-DeleteWhere-clause-history : goal.returns-in-DeleteWhere-clause-history
 returns-in-DeleteWhere-clause-history g c = rw c.in-DeleteWhere.is c.answer_delete_where.ensures.history
-
-pub returns-in-Refresh-clause-does : goal.returns-in-Refresh-clause-does
-returns-in-Refresh-clause-does g c = rw c.in-Refresh.is (c.answer_refresh.ensures.does c.args.line.now.session)
-
-pub returns-in-Refresh-clause-history : goal.returns-in-Refresh-clause-history
-returns-in-Refresh-clause-history g c = rw c.in-Refresh.is c.answer_refresh.ensures.history
 
 pub returns-in-Open-clause-does : goal.returns-in-Open-clause-does
 returns-in-Open-clause-does g c = rw (c.in-Open.is, open_says c.in-Open.token) c.answer_open.ensures.does
@@ -98,35 +99,11 @@ returns-in-FilesOfCommit-clause-does g c = rw c.in-FilesOfCommit.is (c.answer_co
 pub returns-in-FilesOfCommit-clause-history : goal.returns-in-FilesOfCommit-clause-history
 returns-in-FilesOfCommit-clause-history g c = rw c.in-FilesOfCommit.is (nothing_goes g.D.Holder.bytes g.D.Holder.may_leave c.args.self.now.ledger)
 
-pub returns-in-Commit-clause-does : goal.returns-in-Commit-clause-does
-returns-in-Commit-clause-does g c = rw c.in-Commit.is (c.answer_commit.ensures.does c.args.line.now.session)
-
-pub returns-in-Commit-clause-history : goal.returns-in-Commit-clause-history
-returns-in-Commit-clause-history g c = rw c.in-Commit.is c.answer_commit.ensures.history
-
 pub returns-in-Note-clause-does : goal.returns-in-Note-clause-does
 returns-in-Note-clause-does g c = rw c.in-Note.is (c.answer_note.ensures.does c.args.line.now.session)
 
 pub returns-in-Note-clause-history : goal.returns-in-Note-clause-history
 returns-in-Note-clause-history g c = rw c.in-Note.is (nothing_goes g.D.Holder.bytes g.D.Holder.may_leave c.args.self.now.ledger)
-
-pub returns-in-Snapshot-clause-does : goal.returns-in-Snapshot-clause-does
-returns-in-Snapshot-clause-does g c = rw c.in-Snapshot.is (c.answer_snapshot.ensures.does c.args.line.now.session)
-
-pub returns-in-Snapshot-clause-history : goal.returns-in-Snapshot-clause-history
-returns-in-Snapshot-clause-history g c = rw c.in-Snapshot.is c.answer_snapshot.ensures.history
-
-pub returns-in-Unsnapshot-clause-does : goal.returns-in-Unsnapshot-clause-does
-returns-in-Unsnapshot-clause-does g c = rw c.in-Unsnapshot.is (c.answer_unsnapshot.ensures.does c.args.line.now.session)
-
-pub returns-in-Unsnapshot-clause-history : goal.returns-in-Unsnapshot-clause-history
-returns-in-Unsnapshot-clause-history g c = rw c.in-Unsnapshot.is c.answer_unsnapshot.ensures.history
-
-pub returns-in-Prune-clause-does : goal.returns-in-Prune-clause-does
-returns-in-Prune-clause-does g c = rw c.in-Prune.is (c.answer_prune.ensures.does c.args.line.now.session)
-
-pub returns-in-Prune-clause-history : goal.returns-in-Prune-clause-history
-returns-in-Prune-clause-history g c = rw c.in-Prune.is c.answer_prune.ensures.history
 
 pub returns-in-Merge-clause-does : goal.returns-in-Merge-clause-does
 returns-in-Merge-clause-does g c = rw c.in-Merge.is c.answer_chore.ensures.does
@@ -157,3 +134,61 @@ returns-in-Stat-clause-does g c = rw c.in-Stat.is c.answer_chore-in-Stat.ensures
 
 pub returns-in-Stat-clause-history : goal.returns-in-Stat-clause-history
 returns-in-Stat-clause-history g c = rw c.in-Stat.is c.answer_chore-in-Stat.ensures.history
+
+pub invariant_of-self : goal.invariant_of-self
+invariant_of-self g c =
+    world_stays g.D.Holder.bytes 0 Said.refresh c.self.inside.ledger (number_reply c.refresh.result) c.refresh.new.self c.self.invariant (c.refresh.ensures.answers 0)
+
+pub returns-in-Refresh-clause-does : goal.returns-in-Refresh-clause-does
+returns-in-Refresh-clause-does g c = rw (c.in-Refresh.is, ← c.self.view_is) (
+    refresh_does g.D.Holder.bytes g.D.Holder.can_fail g.D.Holder.fault_count c.args.line.now.session c.self.inside.ledger c.refresh.new.self c.refresh.result (reply_of c.number_told.result) c.number_told.ensures c.self.invariant (c.refresh.ensures.answers c.args.line.now.session) c.refresh.ensures.fails c.refresh.ensures.goes.policy c.refresh.ensures.stays c.refresh.ensures.spent c.refresh.ensures.full c.refresh.ensures.due)
+
+pub returns-in-Refresh-clause-history : goal.returns-in-Refresh-clause-history
+returns-in-Refresh-clause-history g c = rw (c.in-Refresh.is, ← c.self.view_is) c.refresh.ensures.goes.history
+
+pub invariant_of-self-in-Commit : goal.invariant_of-self-in-Commit
+invariant_of-self-in-Commit g c =
+    world_stays g.D.Holder.bytes 0 (Said.commit c.in-Commit.text.now) c.self-in-Commit.inside.ledger (number_reply c.commit.result) c.commit.new.self c.self-in-Commit.invariant (c.commit.ensures.answers 0)
+
+pub returns-in-Commit-clause-does : goal.returns-in-Commit-clause-does
+returns-in-Commit-clause-does g c = rw (c.in-Commit.is, ← c.self-in-Commit.view_is) (
+    commit_does g.D.Holder.bytes g.D.Holder.can_fail g.D.Holder.fault_count c.args.line.now.session c.self-in-Commit.inside.ledger c.commit.new.self c.commit.result (reply_of c.number_told-in-Commit.result) c.number_told-in-Commit.ensures c.self-in-Commit.invariant g.D.Holder.may_leave c.in-Commit.text.now (c.commit.ensures.answers c.args.line.now.session) c.commit.ensures.fails c.commit.ensures.policy c.commit.ensures.stays c.commit.ensures.wrong c.commit.ensures.none c.commit.ensures.spent c.commit.ensures.due c.commit.ensures.history)
+
+pub returns-in-Commit-clause-history : goal.returns-in-Commit-clause-history
+returns-in-Commit-clause-history g c = rw (c.in-Commit.is, c.number_told-in-Commit.ensures, ← c.self-in-Commit.view_is) c.commit.ensures.history
+
+pub invariant_of-self-in-Snapshot : goal.invariant_of-self-in-Snapshot
+invariant_of-self-in-Snapshot g c =
+    world_stays g.D.Holder.bytes 0 Said.snapshot c.self-in-Snapshot.inside.ledger (number_reply c.snapshot.result) c.snapshot.new.self c.self-in-Snapshot.invariant (c.snapshot.ensures.answers 0)
+
+pub returns-in-Snapshot-clause-does : goal.returns-in-Snapshot-clause-does
+returns-in-Snapshot-clause-does g c = rw (c.in-Snapshot.is, ← c.self-in-Snapshot.view_is) (
+    plain_does g.D.Holder.bytes g.D.Holder.can_fail g.D.Holder.fault_count c.args.line.now.session c.self-in-Snapshot.inside.ledger c.snapshot.new.self c.snapshot.result (reply_of c.number_told-in-Snapshot.result) c.number_told-in-Snapshot.ensures c.self-in-Snapshot.invariant Said.snapshot refl (c.snapshot.ensures.answers c.args.line.now.session) (c.snapshot.ensures.same, c.snapshot.ensures.err) c.snapshot.ensures.goes.policy
+    (λ k. snap_wants (g.D.Holder.bytes (device_in c.self-in-Snapshot.inside.ledger)) (shape_in c.self-in-Snapshot.inside.ledger) c.args.line.now.session (as_answer c.snapshot.result) k (refused_as _ c.snapshot.result c.snapshot.ensures.due)))
+
+pub returns-in-Snapshot-clause-history : goal.returns-in-Snapshot-clause-history
+returns-in-Snapshot-clause-history g c = rw (c.in-Snapshot.is, ← c.self-in-Snapshot.view_is) c.snapshot.ensures.goes.history
+
+pub invariant_of-self-in-Unsnapshot : goal.invariant_of-self-in-Unsnapshot
+invariant_of-self-in-Unsnapshot g c =
+    world_stays g.D.Holder.bytes 0 (Said.release_snapshot c.in-Unsnapshot.generation) c.self-in-Unsnapshot.inside.ledger (number_reply c.unsnapshot.result) c.unsnapshot.new.self c.self-in-Unsnapshot.invariant (c.unsnapshot.ensures.answers 0)
+
+pub returns-in-Unsnapshot-clause-does : goal.returns-in-Unsnapshot-clause-does
+returns-in-Unsnapshot-clause-does g c = rw (c.in-Unsnapshot.is, ← c.self-in-Unsnapshot.view_is) (
+    plain_does g.D.Holder.bytes g.D.Holder.can_fail g.D.Holder.fault_count c.args.line.now.session c.self-in-Unsnapshot.inside.ledger c.unsnapshot.new.self c.unsnapshot.result (reply_of c.left_told.result) c.left_told.ensures c.self-in-Unsnapshot.invariant (Said.release_snapshot c.in-Unsnapshot.generation) refl (c.unsnapshot.ensures.answers c.args.line.now.session) (c.unsnapshot.ensures.same, c.unsnapshot.ensures.err) c.unsnapshot.ensures.goes.policy
+    (λ k. unsnap_wants (g.D.Holder.bytes (device_in c.self-in-Unsnapshot.inside.ledger)) (shape_in c.self-in-Unsnapshot.inside.ledger) c.args.line.now.session (as_answer c.unsnapshot.result) k c.in-Unsnapshot.generation (refused_as _ c.unsnapshot.result c.unsnapshot.ensures.due)))
+
+pub returns-in-Unsnapshot-clause-history : goal.returns-in-Unsnapshot-clause-history
+returns-in-Unsnapshot-clause-history g c = rw (c.in-Unsnapshot.is, ← c.self-in-Unsnapshot.view_is) c.unsnapshot.ensures.goes.history
+
+pub invariant_of-self-in-Prune : goal.invariant_of-self-in-Prune
+invariant_of-self-in-Prune g c =
+    world_stays g.D.Holder.bytes 0 (Said.prune c.in-Prune.count) c.self-in-Prune.inside.ledger (number_reply c.prune.result) c.prune.new.self c.self-in-Prune.invariant (c.prune.ensures.answers 0)
+
+pub returns-in-Prune-clause-does : goal.returns-in-Prune-clause-does
+returns-in-Prune-clause-does g c = rw (c.in-Prune.is, ← c.self-in-Prune.view_is) (
+    plain_does g.D.Holder.bytes g.D.Holder.can_fail g.D.Holder.fault_count c.args.line.now.session c.self-in-Prune.inside.ledger c.prune.new.self c.prune.result (reply_of c.number_told-in-Prune.result) c.number_told-in-Prune.ensures c.self-in-Prune.invariant (Said.prune c.in-Prune.count) refl (c.prune.ensures.answers c.args.line.now.session) (c.prune.ensures.same, c.prune.ensures.err) c.prune.ensures.goes.policy
+    (λ k. prune_wants (g.D.Holder.bytes (device_in c.self-in-Prune.inside.ledger)) (shape_in c.self-in-Prune.inside.ledger) c.args.line.now.session (as_answer c.prune.result) k c.in-Prune.count))
+
+pub returns-in-Prune-clause-history : goal.returns-in-Prune-clause-history
+returns-in-Prune-clause-history g c = rw (c.in-Prune.is, ← c.self-in-Prune.view_is) c.prune.ensures.goes.history

@@ -16,7 +16,7 @@ invariant_of-self g c =
 pub returns-clause-does : goal.returns-clause-does
 returns-clause-does g c = rw (← c.self.view_is) (
     does_telling g.D.Holder.bytes g.D.Holder.can_fail g.D.Holder.fault_count c.args.session (Said.get c.args.token c.args.id.now) c.self.inside.ledger (reply_of c.get.result) c.get.new.ledger
-    c.self.inside.filters c.self.invariant (get_caused g.D.Holder.bytes g.D.Holder.can_fail g.D.Holder.fault_count c.self.inside.ledger c.self.inside.filters c.get.result c.get.new.ledger c.self.inside.filters c.args.token c.args.id.now c.get.ensures.damaged c.get.ensures.reach c.get.ensures.fails) refl c.get.ensures.answers c.get.ensures.fails.can c.get.ensures.goes.policy
+    c.self.inside.filters c.self.invariant (get_caused g.D.Holder.bytes g.D.Holder.can_fail g.D.Holder.fault_count c.self.inside.ledger c.self.inside.filters c.get.result c.get.new.ledger c.self.inside.filters c.args.token c.args.id.now c.get.ensures.damaged c.get.ensures.reach c.get.ensures.fails c.get.ensures.shape) refl c.get.ensures.answers c.get.ensures.fails.can c.get.ensures.goes.policy
     (source_told (shape_in c.self.inside.ledger) c.args.token c.args.id.now c.get.result c.get.ensures.one_line)
     (λ k. get_wants (g.D.Holder.bytes (device_in c.self.inside.ledger)) (shape_in c.self.inside.ledger) c.args.session c.get.result (stopped c.get.result k) c.args.token c.args.id.now c.get.ensures.wrong c.get.ensures.due))
 

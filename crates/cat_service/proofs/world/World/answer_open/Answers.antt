@@ -18,7 +18,7 @@ invariant_of-self g c =
 pub returns-clause-does : goal.returns-clause-does
 returns-clause-does g c = rw (← c.self.view_is) (
     does g.D.Holder.bytes g.D.Holder.can_fail g.D.Holder.fault_count c.args.session (said_open c.args.token) c.self.inside.ledger (reply_of c.«open».result) c.«open».new.ledger
-    c.self.inside.filters c.self.invariant (open_caused g.D.Holder.bytes g.D.Holder.can_fail g.D.Holder.fault_count c.self.inside.ledger c.self.inside.filters c.«open».result c.«open».new.ledger c.self.inside.filters c.args.token (ap g.D.Holder.fault_count c.«open».ensures.same) (omega (arith, ap g.D.Holder.fault_count c.«open».ensures.same))) (opens_leave_sets c.args.session c.args.token c.self.inside.ledger c.«open».new.ledger c.self.inside.filters (reply_of c.«open».result)) c.«open».ensures.answers (subst g.D.Holder.can_fail c.«open».ensures.same) c.«open».ensures.goes.policy (opens_say_none c.args.token)
+    c.self.inside.filters c.self.invariant (open_caused g.D.Holder.bytes g.D.Holder.can_fail g.D.Holder.fault_count c.self.inside.ledger c.self.inside.filters c.«open».result c.«open».new.ledger c.self.inside.filters c.args.token (ap g.D.Holder.fault_count c.«open».ensures.same) (omega (arith, ap g.D.Holder.fault_count c.«open».ensures.same)) c.«open».ensures.err) (opens_leave_sets c.args.session c.args.token c.self.inside.ledger c.«open».new.ledger c.self.inside.filters (reply_of c.«open».result)) c.«open».ensures.answers (subst g.D.Holder.can_fail c.«open».ensures.same) c.«open».ensures.goes.policy (opens_say_none c.args.token)
     (λ k. open_wants (g.D.Holder.bytes (device_in c.self.inside.ledger)) (shape_in c.self.inside.ledger) c.args.session c.«open».result (stopped c.«open».result k) c.args.token c.«open».ensures.due))
 
 pub returns-clause-history : goal.returns-clause-history

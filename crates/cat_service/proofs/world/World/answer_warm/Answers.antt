@@ -29,7 +29,7 @@ pub returns-clause-does : goal.returns-clause-does
 returns-clause-does g c = rw (← c.self.view_is) (
     does g.D.Holder.bytes g.D.Holder.can_fail g.D.Holder.fault_count c.args.session (Said.chore Chore.warm) c.self.inside.ledger (reply_of c.warm.result) c.self.inside.ledger
     c.warm.new.filters c.self.invariant
-    (warm_caused g.D.Holder.bytes g.D.Holder.can_fail g.D.Holder.fault_count c.self.inside.ledger c.self.inside.filters c.warm.result c.self.inside.ledger c.warm.new.filters c.warm.ensures.told refl (omega arith))
+    (warm_caused g.D.Holder.bytes g.D.Holder.can_fail g.D.Holder.fault_count c.self.inside.ledger c.self.inside.filters c.warm.result c.self.inside.ledger c.warm.new.filters c.warm.ensures.told refl (omega arith) refl)
     (warm_uses c.args.session c.self.inside.ledger c.self.inside.filters c.warm.new.filters c.warm.result c.warm.ensures.foreign c.warm.ensures.told c.warm.ensures.refusal) c.warm.ensures.answers (λ x. x) refl refl
     (λ k. warm_wants (g.D.Holder.bytes (device_in c.self.inside.ledger)) (shape_in c.self.inside.ledger) c.args.session c.warm.result (stopped c.warm.result k) c.warm.ensures.foreign))
 
