@@ -3,7 +3,7 @@ ghost use Rattle.std.specs.Prelude.{◌≡◌, ◌⊎◌};
 ghost use Rattle.cat_model.specs.Lines.{Said};
 ghost use Rattle.cat_model.specs.View.{segments_of};
 ghost use Rattle.cat_commands.specs.cat_cached_sets.filters.Known.{Remembers, RemembersBelow, FiltersRemember, FiltersRememberBelow};
-ghost use Rattle.cat_commands.specs.cat_ledger.Answering.{AnswersSaid};
+ghost use Rattle.cat_commands.specs.cat_ledger.Answering.{AnswersSaid, number_reply};
 ghost use Rattle.cat_commands.specs.cat_ledger.Ledgers.{shape_in};
 ghost use Rattle.cat_commands.specs.cat_protocol.replies.Reply.{reply_of};
 ghost use Rattle.cat_commands.specs.ledger.Chores.{chore_of};
@@ -147,14 +147,24 @@ fn upkeep<D: Directory + Shelf>(
     commands::maintain(alloc, ledger, filters, 0, chore)
 }
 
-/// A snapshot of this commit is given back.
-fn unsnap<D: Directory + Shelf>(
-    ledger: &mut Ledger<D>,
-    generation: Generation,
-) -> Result<Answer, Refusal>
-    ensures { AnswersSaid D.bytes 0 (Said.release_snapshot generation) ledger.old (reply_of result) ledger.new }
+/// What a call of the ledger is answered that tells a number.
+fn number_told(number: Result<u64, Refusal>) -> Result<Answer, Refusal>
+    ensures { reply_of result ≡ number_reply number }
 {
-    commands::release_snapshot(ledger, generation)
+    match number {
+        Ok(number) => Ok(Answer::Number(number)),
+        Err(refusal) => Err(refusal),
+    }
+}
+
+/// So of how many snapshots of a commit are left.
+fn left_told(left: Result<u32, Refusal>) -> Result<Answer, Refusal>
+    ensures { reply_of result ≡ number_reply left }
+{
+    match left {
+        Ok(left) => Ok(Answer::Number(left as u64)),
+        Err(refusal) => Err(refusal),
+    }
 }
 
 /// Does the chore, by the call for the line that session 0 would say.
@@ -175,11 +185,11 @@ pub(crate) fn answer<D: Directory + Shelf>(
         Chore::Sweep => upkeep(alloc, ledger, filters, commands::Chore::Sweep),
         Chore::Stat => upkeep(alloc, ledger, filters, commands::Chore::Stat),
         Chore::Warm => commands::warm(ledger, filters, 0),
-        Chore::Commit(text) => commands::commit(ledger, text.as_str()),
+        Chore::Commit(text) => number_told(ledger.commit(text.as_str())),
         Chore::Note(generation) => commands::text_of_commit(alloc, ledger, *generation),
-        Chore::Snap => commands::snapshot(ledger),
-        Chore::Unsnap(generation) => unsnap(ledger, *generation),
-        Chore::Prune(count) => commands::prune(ledger, *count),
+        Chore::Snap => number_told(ledger.snapshot()),
+        Chore::Unsnap(generation) => left_told(ledger.unsnapshot(*generation)),
+        Chore::Prune(count) => number_told(ledger.prune(*count)),
         Chore::Files(generation) => commands::files_of_commit(ledger, *generation),
     }
 }
