@@ -176,7 +176,7 @@ fn exit(ending: Ending) -> ExitCode
     ExitCode::from(ending.status())
 }
 
-/// RunsCheck the program, and says the exit status: 0 where the newest commit is whole, 1 where it isn't or there is none, 2 where
+/// Runs the program, and says the exit status: 0 where the newest commit is whole, 1 where it isn't or there is none, 2 where
 /// the arguments are wrong or the folder can't be read.
 pub(crate) fn run<S: AllocGlobal + System>(system: &mut S) -> ExitCode
     ensures { RunsCheck S.does S.Folder.bytes S.Folder.may_leave S.Folder.can_fail system.old (exit_status result) system.new }
