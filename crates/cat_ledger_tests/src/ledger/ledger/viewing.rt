@@ -5,7 +5,6 @@ use cat_directory::{Directory, Shelf};
 use cat_ledger::cat_lifetimes::rights::Rights;
 use cat_ledger::{Grant, Ledger};
 use cat_views::Hold;
-use std::alloc::AllocError;
 
 /// Records a view of now.
 pub(crate) fn refresh<D: Directory + Shelf>(ledger: &mut Ledger<D>) -> Told {
@@ -89,10 +88,7 @@ pub(crate) fn let_go<D: Directory + Shelf>(
 
 /// Takes views out.
 pub(crate) fn prune<D: Directory + Shelf>(ledger: &mut Ledger<D>, count: u64) -> Told {
-    match ledger.prune(count) {
-        Ok(went) => Told::Number(went),
-        Err(AllocError) => Told::No(Refusal::Memory),
-    }
+    number(ledger.prune(count))
 }
 
 /// Whether the text is the wanted one; none is wanted where there is none.
