@@ -12,6 +12,7 @@ mod finding;
 mod holds;
 #[cfg(test)]
 mod output;
+mod pages;
 #[cfg(test)]
 mod record;
 #[cfg(test)]
@@ -23,4 +24,5 @@ mod tables;
 #[cfg(test)]
 pub use catalogue::Plain;
 pub use counts::{Counts, LabelCount};
+pub use pages::{Entry, KeyRef, Page};
 pub use reply::{Answer, Reply};

@@ -4,6 +4,7 @@ pub mod Finds
 pub mod LabelRanks
 pub mod ModelRuns
 pub mod Openings
+pub mod Pages
 pub mod Rising
 pub mod Sound
 pub mod Tokens

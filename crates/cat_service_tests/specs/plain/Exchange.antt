@@ -52,11 +52,6 @@ abbrev pub TellsFound : Result Found Refusal → Result Page Refusal → Type 0
 TellsFound answer (Ok p) = answer ≡ Ok (Found.page p)
 TellsFound answer (Err e) = (answer ≡ Err e) ⊎ ((e ≡ Memory) × (f : Found) × (answer ≡ Ok f))
 
--- the refusal that is told, or want of memory in place of a page
-abbrev pub refusal_told : Result Page Refusal → Refusal
-refusal_told (Ok p) = Memory
-refusal_told (Err e) = e
-
 -- the page that is told, or the refusal
 abbrev pub page_reply : Result Page Refusal → run.Reply
 page_reply (Ok p) = Ok (run.Answer.found (Found.page p))

@@ -1,8 +1,8 @@
 //! Counts over the labels of hits, by one look at each hit for each label.
-ghost use Rattle.std.specs.Prelude.{◌≡◌, ◌++◌, count_by, filter, map, not, IfOk, OnOk};
+ghost use Rattle.std.specs.Prelude.{◌≡◌, ◌++◌, count_by, filter, length, ltb, map, IfOk, OnOk};
 ghost use Rattle.std.specs.List.{list_any};
 ghost use Rattle.cat_base.specs.Texts.{IsTextSet};
-ghost use Rattle.cat_model.specs.Facets.{counted, facets_in, facets_of, is_empty, labels_met, labels_of, more};
+ghost use Rattle.cat_model.specs.Facets.{counted, facets_in, facets_of, labels_met, labels_of, more};
 ghost use Rattle.cat_model.specs.Item.{content_of, labels_in};
 ghost use Rattle.cat_model.specs.Page.{first_ranked, hits};
 ghost use Rattle.cat_model.specs.Query.{matches};
@@ -62,17 +62,14 @@ fn has_label(hit: &Record, dim: &str, label: &str) -> bool
 
 /// Whether the hit has a label at all.
 fn has_some_label(hit: &Record, dim: &str) -> bool
-    ensures { result ≡ not (is_empty (labels_of dim.now hit.now)) }
+    ensures { result ≡ ltb 0 (length (labels_of dim.now hit.now)) }
 {
-    match labels_in(hit.item(), dim) {
-        [] => false,
-        [_, ..] => true,
-    }
+    labels_in(hit.item(), dim).len() > 0
 }
 
 /// How many hits have a label at all.
 fn count_labelled(hits: &[Record], dim: &str) -> usize
-    ensures { result ≡ count_by (λ h. not (is_empty (labels_of dim.now h))) hits.now }
+    ensures { result ≡ count_by (λ h. ltb 0 (length (labels_of dim.now h))) hits.now }
 {
     hits.iter().filter(|hit| has_some_label(hit, dim)).count()
 }
@@ -92,7 +89,11 @@ fn keep_hits(records: &mut Vec<Record>, query: &Query)
 }
 
 /// The hits of the query among the records.
-fn hits_of(alloc: Global, records: &[Record], query: &Query) -> Result<Vec<Record>, AllocError>
+pub(crate) fn hits_of(
+    alloc: Global,
+    records: &[Record],
+    query: &Query,
+) -> Result<Vec<Record>, AllocError>
     ensures ok { IfOk result (λ hs. hs.items ≡ hits records.now (query_of query.now)) }
 {
     let mut found = copy_records(alloc, records)?;

@@ -12,9 +12,10 @@ ghost use Rattle.cat_service_tests.specs.plain.Reply.{plain_answer, plain_reply}
 ghost use Rattle.cat_search.specs.Keys.{key_of};
 
 use crate::plain::counts::{Counts, LabelCount};
+use crate::plain::pages::{Entry, Page};
 use crate::plain::reply::{Answer, Reply};
 use cat_base::{Refusal, SessionNo};
-use cat_search::{Entry, Key, Page};
+use cat_search::Key;
 use itoa::Buffer;
 use std::alloc::{AllocError, Global};
 use std::io::{ErrorKind, Write};

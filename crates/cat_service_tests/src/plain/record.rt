@@ -3,7 +3,6 @@ ghost use Rattle.std.specs.Prelude.{◌≡◌, IfOk};
 ghost use Rattle.std.specs.Arc.{arc_value};
 
 use cat_base::WriteNo;
-use cat_search::Numbered;
 use cat_search::cat_items::Item;
 use std::alloc::AllocError;
 use std::marker::Model;
@@ -52,17 +51,5 @@ impl Record {
             number: self.number,
             item: Arc::try_clone(&self.item)?,
         })
-    }
-}
-
-impl Numbered for Record {
-    ghost record_of = { λ r. r };
-
-    fn number(&self) -> WriteNo {
-        self.number
-    }
-
-    fn item(&self) -> &Item {
-        &self.item
     }
 }

@@ -1,7 +1,7 @@
 //! What is answered to a line.
 use crate::plain::counts::Counts;
+use crate::plain::pages::Page;
 use cat_base::{Refusal, SessionNo};
-use cat_search::Page;
 
 /// What stands behind `OK`.
 #[derive(Drop)]

@@ -10,7 +10,7 @@ use Rattle.std.proofs.lemmas.List.Elements.{All-nil, All-cons}
 use Rattle.std.proofs.lemmas.List.Kept.{AllPairs-cons}
 use Rattle.cat_model.specs.State.{found_table}
 
-rise-filter : (p : item.Record → Bool) (rs : List item.Record) → NumbersRise rs → NumbersRise (filter p rs)
+pub rise-filter : (p : item.Record → Bool) (rs : List item.Record) → NumbersRise rs → NumbersRise (filter p rs)
 rise-filter p [] a = tt
 rise-filter p (r ∷ rs) a =
     elim (p r) as (λ b. NumbersRise (cond b (r ∷ filter p rs) (filter p rs))) [

@@ -9,12 +9,13 @@ ghost use Rattle.cat_service_tests.specs.plain.Tables.{AreItems, NumbersRise};
 
 use crate::plain::catalogue::Plain;
 use crate::plain::finding::{find_in, refusal_in};
+use crate::plain::pages::Page;
 use crate::plain::record::Record;
 use crate::plain::recorded::recorded_under;
 use crate::plain::reply::Answer;
 use cat_base::{Refusal, SessionNo, Token};
 use cat_query::Query;
-use cat_search::{Ask, Page};
+use cat_search::Ask;
 
 impl Plain {
     /// The table as it stood at the token, or none.
@@ -57,7 +58,7 @@ impl Plain {
         let records = self.table_at(token);
         match query {
             Some(query) => find_in(self.alloc, &self.schema, records, query, ask),
-            None => Err(refusal_in(self.alloc, &self.schema, records, ask)),
+            None => Err(refusal_in(&self.schema, records, ask)),
         }
     }
 
