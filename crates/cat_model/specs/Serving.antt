@@ -9,10 +9,10 @@ use Rattle.cat_model.specs.Query.{Query}
 use Rattle.cat_model.specs.Table.{Opened}
 use Rattle.cat_model.specs.Answer.{Found}
 use Rattle.cat_model.specs.Run.{Answer, Command, EachBehind, Fits, IsRun, Reply, Run, greatest, holds, view_tokens}
-use Rattle.cat_model.specs.Lines.{line_text}
+use Rattle.cat_model.specs.Lines.{IsReadable, line_text}
 use Rattle.cat_model.specs.Heard.{Json}
 use Rattle.cat_model.specs.Files.{Name}
-use Rattle.cat_model.specs.Served.{Answered, Ending, HasSchemaText, HeardAll, Outcome, Refused, ServesBy, TellsFiles, exchange, outcome_text}
+use Rattle.cat_model.specs.Served.{Answered, Ending, HeardAll, NamesFiles, Outcome, Refused, ServesBy, SpellsSchema, exchange, outcome_text}
 use Rattle.cat_model.specs.Told.{DirectoryKind, NoMore, TellsAlways}
 use Rattle.cat_model.specs.Opens.{BeginsFrom}
 use Rattle.cat_model.specs.Promised.{LeavesPromised, SurvivesCrash}
@@ -78,8 +78,8 @@ pub record IsServedIn (json : Json) {D : Type 0} (kind : DirectoryKind D) (devic
   pub alike : AreLike tolds fitting
   pub same : TellsAlways kind → tolds ≡ fitting
   pub wanting : EachBehind (λ past e. e.reply ≡ Err Memory → MayWantIn from past e.line.session e.line.command) [] (filter_map exchange fitting)
-  pub files : AllByRecursion TellsFiles tolds
-  pub failing : AllByRecursion (FailsRightly (kind.can_fail device)) tolds
+  pub files : AllByRecursion (λ told. IfSome (exchange told) (λ e. NamesFiles e.reply)) tolds
+  pub failing : AllByRecursion (λ told. IfSome (exchange told) (λ e. e.reply ≡ Err Device → kind.can_fail device)) tolds
   pub promised : LeavesPromised kind left from (filter_map exchange fitting)
   pub survives : TellsAlways kind → SurvivesCrash (kind.may_leave left) from (filter_map exchange fitting)
   pub whole : text ≡ line_text (codes "OK" ∷ decimal from.start.token ∷ []) ++ flat_map outcome_text tolds
@@ -88,7 +88,7 @@ pub record IsServedIn (json : Json) {D : Type 0} (kind : DirectoryKind D) (devic
 -- file is told as it was, and a crash may leave no more of it than it could have.
 abbrev pub RefusesFirst : Json → {D : Type 0} → DirectoryKind D → (device left : D) → Text → Refusal → Type 0
 RefusesFirst json kind device left first e =
-    (((e ≡ Memory) × HasSchemaText first) ⊎ BeginsFrom json (kind.bytes device) first (Err e))
+    (((e ≡ Memory) × (IsReadable first × (factor least : ℕ) × (text : Text) × SpellsSchema first factor least text)) ⊎ BeginsFrom json (kind.bytes device) first (Err e))
     × ((q : Name) → kind.bytes left q ≡ kind.bytes device q) × ((q : Name) → NoMore (kind.may_leave device q) (kind.may_leave left q))
 
 -- What is written answers the lines that were read: it is the text of a run that fits them, from where the directory is opened; and

@@ -1,14 +1,14 @@
 -- How a service stands between two lines: what a STAT would tell, how far a merge is, which sets of rows are cached, which numbers come next,
 -- how many failures its directory has counted, and which generations were tried. By it each refusal that stands in place of an OK has its
 -- cause, and what maintenance tells is so.
-use Rattle.std.specs.Prelude.{◌≡◌, ◌⊎◌, ℕ, ◌+◌, ◌-◌, ◌<◌, ◌≤◌, min, true, List, [], ◌∷◌, ◌++◌, length, map, take, drop, sum, All, Contains, option_to_list, Option, Some, None, IfSome, Result, Ok, Err, IsOk}
+use Rattle.std.specs.Prelude.{◌≡◌, ◌⊎◌, ℕ, ◌+◌, ◌-◌, ◌*◌, ◌<◌, ◌≤◌, min, Bool, true, false, List, [], ◌∷◌, ◌++◌, length, map, take, drop, sum, All, Contains, option_to_list, Option, Some, None, IfSome, Result, Ok, Err, IsOk}
 use Rattle.cat_base.specs.declared.refusal.Refusal.{Refusal}
 use Rattle.cat_base.specs.declared.refusal.Refusal.TheVariants.{Damaged, Device, Memory, Spent}
 use Rattle.cat_model.specs.Text.{IsOneLine, Text}
 use Rattle.cat_model.specs.Answer.{Read, stored}
 use Rattle.cat_model.specs.Limits.{buffer_limit, last_number, noted_limit, row_limit, segment_limit, set_limit, step_limit}
 use Rattle.cat_model.specs.Query.{Query}
-use Rattle.cat_model.specs.Run.{Answer, Chore, Command, Exchange, News, Reply, Run, SegmentStat, Stat, accepted_by, now, view_tokens, writes}
+use Rattle.cat_model.specs.Run.{Answer, Chore, Command, Exchange, News, Reply, Run, SegmentStat, Stat, accepted_by, may_refuse, now, view_tokens, writes}
 use Rattle.cat_model.specs.Promised.{refuses_commit}
 use Rattle.cat_model.specs.Table.{Opened, table}
 use Rattle.cat_model.specs.Window.{IsWindow}
@@ -26,8 +26,8 @@ pub record Cache : Type 0 where
   pub noted : List Query
   pub making : Option ((Query × ℕ) × Progress)
 
--- What a STAT would tell, with no cached set; the merge in the making, by the number that its segment takes; the cached sets; the numbers of the next segment and of the next
--- commit; the failures that the directory has counted; and the generations that COMMITs tried which were refused.
+-- What a STAT would tell, with no cached set; the merge in the making, by the number that its segment takes; the cached sets; the numbers of the
+-- next segment and of the next commit; the failures that the directory has counted; and the generations that COMMITs tried which were refused.
 pub record Standing : Type 0 where
   pub stat : Stat
   pub merging : Option (ℕ × Progress)
@@ -167,19 +167,27 @@ LiveRowsFall (x ∷ xs) (y ∷ ys) = (y.number ≡ x.number) × (y.rows ≡ x.ro
 LiveRowsFall xs ys = ⊥
 
 -- Why the segments change, but for rows that are live no more: told `done`, some that stand side by side, with the rows of the merge, become
--- one at most, under its number and with no more rows; told anything else they stay, or one more comes last, of all that waited, under a number
--- of its own.
+-- one at most, under its number and with no more rows; told anything else they stay, or one more comes last, of all that waited where some did,
+-- under a number of its own.
 abbrev pub SegmentsMove : Standing → Reply → List SegmentStat → (next : ℕ) → Type 0
 SegmentsMove s (Ok (Answer.news News.done)) mid next = (m : ℕ × Progress) × (front taken made back : List SegmentStat)
     × (s.merging ≡ Some m) × (s.stat.segments ≡ front ++ (taken ++ back)) × (mid ≡ front ++ (made ++ back)) × (0 < length taken)
     × (sum (map (λ x. x.rows) taken) ≡ m.1.rows) × (length made ≤ 1) × All (λ x. (x.number ≡ m.0) × (x.rows ≤ m.1.rows)) made
 SegmentsMove s reply mid next = (mid ≡ s.stat.segments)
-    ⊎ ((mid ≡ s.stat.segments ++ record { number = s.next_segment; rows = s.stat.buffered; live = s.stat.buffered } ∷ []) × (next ≡ s.next_segment + 1))
+    ⊎ ((0 < s.stat.buffered) × (mid ≡ s.stat.segments ++ record { number = s.next_segment; rows = s.stat.buffered; live = s.stat.buffered } ∷ []) × (next ≡ s.next_segment + 1))
+
+-- a line of the command may begin a file, or let one go
+abbrev pub moves_files : Command → Bool
+moves_files (Command.read t asked) = false
+moves_files (Command.release_snapshot g) = true
+moves_files (Command.prune n) = true
+moves_files c = may_refuse c Device
 
 -- What a line makes of it, whatever it is told: it takes one number of each kind at most; segments change for a reason, and no row is live
 -- that wasn't; behind a REFRESH and a COMMIT with OK nothing waits; nothing waits more than before but an item that was accepted; behind a
--- SWEEP with OK no file waits to be deleted; no failure is forgotten; and a COMMIT that was refused, but not for its text, takes the generation
--- that it tried.
+-- SWEEP with OK no file waits to be deleted; a line that moves no file takes no number, and as many wait to be deleted as did; at no time do
+-- more wait than the numbers name that were given out, two a segment, one a generation and one for each pair; the number of a merge in the
+-- making was given out; no failure is forgotten; and a COMMIT that was refused, but not for its text, takes the generation that it tried.
 pub record MovesOn (s : Standing) (c : Command) (reply : Reply) (new : Standing) : Type 0 where
   pub segment : (s.next_segment ≤ new.next_segment) × (new.next_segment ≤ s.next_segment + 1)
   pub generation : (s.next_generation ≤ new.next_generation) × (new.next_generation ≤ s.next_generation + 1)
@@ -189,6 +197,9 @@ pub record MovesOn (s : Standing) (c : Command) (reply : Reply) (new : Standing)
   pub waits : new.stat.buffered ≤ s.stat.buffered + length (option_to_list (accepted_by c reply))
   pub cache : CacheMoves s c reply new
   pub swept : (a : Answer) → c ≡ Command.chore Chore.sweep → reply ≡ Ok a → new.stat.pending ≡ 0
+  pub still : moves_files c ≡ false → (new.next_segment ≡ s.next_segment) × (new.next_generation ≡ s.next_generation) × (new.stat.pending ≡ s.stat.pending)
+  pub few : s.stat.pending + 2 ≤ s.next_segment * (s.next_generation + 1)
+  pub making : IfSome new.merging (λ m. m.0 < new.next_segment)
   pub failures : s.failures ≤ new.failures
   pub tried : (new.tried ≡ s.tried) ⊎ ((refuses_commit c reply ≡ true)
       × (new.tried ≡ s.next_generation ∷ s.tried) × (s.next_generation < new.next_generation))

@@ -23,5 +23,5 @@ IsFirst level index other_level other_index = (level < other_level) ⊎ ((level 
 pub data IsWindow (factor least : ℕ) (sizes : List ℕ) : Option ℕ → Type 0 where
   no_window : ((level index : ℕ) → IsMergeable factor least sizes level index → ⊥) → IsWindow factor least sizes None
   window : (level index : ℕ) → IsMergeable factor least sizes level index
-      → ((other_level other_index : ℕ) → IsMergeable factor least sizes other_level other_index → IsFirst level index other_level other_index)
+      → ((other_level other_index : ℕ) → IsMergeable factor least sizes other_level other_index → (level < other_level) ⊎ ((level ≡ other_level) × (index ≤ other_index)))
       → IsWindow factor least sizes (Some index)
