@@ -62,7 +62,7 @@ flush_lifts s new call l ok e = lifted (subst (λ s. IsFlushed s new) (sym e) ca
     lifted c =
         let p : Portion = all_live l.next_segment l.buffered in
         let l' : Ledger = record l { portions = l.portions ++ p ∷ []; buffered = []; users = new.users; next_segment = l.next_segment + 1 } in
-        (l', (λ i. record (shape_of l') { leaves = map_push (leaf_of l.schema) l.portions p i }) ∙ sym c.rest, record { left = c.left; users = c.users; rest = refl })
+        (l', (λ i. record (shape_of l') { leaves = map_push (leaf_of l.schema) l.portions p i }) ∙ sym c.rest, record { some = c.some; left = c.left; users = c.users; rest = refl })
 
 flush_sound : (l : Ledger) → KeepsSound Flushed l
 flush_sound l l' ok call = (flushed l l' ok call).0

@@ -22,6 +22,7 @@ wrote l w =
 
 -- the records that wait are a new segment
 pub record Flushed (l new : Ledger) : Type 0 where
+  pub some : 0 < length l.buffered
   pub left : l.next_segment ≤ last_number
   pub users : Changes (names_of_portion (all_live l.next_segment l.buffered)) [] l.users new.users
   pub rest : new

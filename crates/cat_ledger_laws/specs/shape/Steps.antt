@@ -24,6 +24,7 @@ with_write s w =
 
 -- the records that wait are a new segment
 pub record IsFlushed (s new : Shape) : Type 0 where
+  pub some : 0 < length s.buffered
   pub left : s.next_segment ≤ last_number
   pub users : Changes (names_of_leaves (flushed_leaf s ∷ [])) [] s.users new.users
   pub rest : new
