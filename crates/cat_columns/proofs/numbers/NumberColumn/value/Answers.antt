@@ -22,3 +22,6 @@ returns-else-contains c =
     ap (λ b. number_at b (get_or c.self.inside.values.items c.args.row (pos 0))) (sym c.if-contains.false ∙ c.contains.ensures)
     ∙ sym (get_or-numbers _ _ c.args.row c.self.invariant.same (omega (arith, c.requires, c.self.invariant.same, length-numbers _ _ c.self.invariant.same, ap length c.self.view_is)))
     ∙ ap (λ (l : List (Option ℤ)). get_or l c.args.row None) c.self.view_is
+
+pub index-requires : goal.index-requires
+index-requires c = omega (arith, c.requires, c.self.invariant.same, c.self.inside.values.ok.0, length-numbers _ _ c.self.invariant.same, ap length c.self.view_is)
