@@ -27,3 +27,9 @@ pub sole_rows : (cs : List Clause) (p : Primary) (name : Text) (t : Test) → cl
 sole_rows cs p name t is e rows =
     map_same (λ r. primary_matches (tested name t) (item_in r)) (row_matches (clauses_of cs))
     (λ r. alone (primary_matches (tested name t) (item_in r)) ∙ ap (λ q. matches q (item_in r)) (ap sole (sym (ap primary_of e ∙ field_is name t)) ∙ sym is)) rows
+
+-- the rows of one clause without a sign are those that its primary matches
+pub sole_set : (cs : List Clause) (p : model.Primary) → clauses_of cs ≡ sole p → (rows : List Row) → map (λ r. primary_matches p (item_in r)) rows ≡ map (row_matches (clauses_of cs)) rows
+sole_set cs p is rows =
+    map_same (λ r. primary_matches p (item_in r)) (row_matches (clauses_of cs))
+    (λ r. alone (primary_matches p (item_in r)) ∙ ap (λ q. matches q (item_in r)) (sym is)) rows
