@@ -1,5 +1,5 @@
 -- What was read of ranges, and what a merge has copied by them.
-use Rattle.std.proofs.Common.{◌≡◌, ◌≢◌, ℕ, zero, suc, ◌+◌, ◌-◌, ◌<◌, List, [], ◌∷◌, ◌++◌, length, get_or, take, drop, map, replicate, Some, None, Result, Ok, Err, IfErr, refl, sym, ◌∙◌, ap, ap₂, subst, arith, zero-add, inl, inr, true, false, Bool}
+use Rattle.std.proofs.Common.{◌≡◌, ◌≢◌, ℕ, zero, suc, ◌+◌, ◌-◌, ◌<◌, ◌≤◌, List, [], ◌∷◌, ◌++◌, length, get_or, take, drop, map, replicate, Some, None, Result, Ok, Err, IfErr, refl, sym, ◌∙◌, ap, ap₂, subst, arith, zero-add, inl, inr, true, false, Bool}
 use Rattle.std.specs.Prelude.{IsErr, IsErrAnd, Any, min, sum}
 use Rattle.std.specs.List.{flat_map}
 use Rattle.std.proofs.lemmas.List.{take_more, length-append, length-replicate, map-append, length-take-le, length-drop}
@@ -8,13 +8,13 @@ use Rattle.std.proofs.Math.Seq.{take-nil}
 use Rattle.cat_base.specs.declared.refusal.Refusal.{Refusal}
 use Rattle.cat_directory.specs.declared.name.FileName.{FileName}
 use Rattle.cat_directory.specs.declared.name.FileName.TheVariants as file
-use Rattle.cat_directory.specs.Devices.{TellsAlike}
+use Rattle.cat_directory.specs.Devices.{CountsReading, CountsWriting, ReadingCount, TellsAlike, Told, WritingCount, file_written, told_after}
 use Rattle.cat_directory.specs.Names.{name_of}
 use Rattle.cat_ledger_laws.specs.model.Users.{has_name}
 use Rattle.cat_ledger_laws.specs.shape.MergeLaws.{TellsInputs, CopiesOn}
 use Rattle.cat_ledger_laws.specs.shape.Shapes.{MergingShape}
 use Rattle.cat_ledger_laws.specs.shape.Steps.{passed_on}
-use Rattle.cat_ledger_laws.specs.shape.Ties.{ToldFiles, TouchesOnly}
+use Rattle.cat_ledger_laws.specs.shape.Ties.{IsTold, ToldFiles, TouchesOnly}
 use Rattle.cat_ledger_laws.proofs.shape.MergeSteps.{alone}
 use Rattle.cat_merge.specs.Copied.{bytes_in}
 use Rattle.cat_ledger_laws.specs.model.Stored.{joined_sources}
@@ -40,7 +40,31 @@ fault_is (Err x) e so = ap Err so.1
 pub passed : {T : Type 0} (P : Refusal → Type 0) (r : Result T Refusal) (e : Refusal) → IsErr r × IsErrAnd r (λ x. x ≡ e) → P e → IfErr r P
 passed P r e so p = subst (λ (r : Result _ Refusal). IfErr r P) (sym (fault_is r e so)) p
 
+pub counts_passed : {T : Type 0} (old new : ℕ) (r : Result T Refusal) (e : Refusal) → IsErr r × IsErrAnd r (λ x. x ≡ e) → ReadingCount old new e → CountsReading old new r
+counts_passed old new r e so counted = subst (λ (r : Result _ Refusal). CountsReading old new r) (sym (fault_is r e so)) counted
+
+pub writing_counted : {T : Type 0} (old new : ℕ) (r : Result T Refusal) (e : Refusal) → IsErr r × IsErrAnd r (λ x. x ≡ e) → WritingCount old new e → CountsWriting old new r
+writing_counted old new r e so counted = subst (λ (r : Result _ Refusal). CountsWriting old new r) (sym (fault_is r e so)) counted
+
+-- a file that was written is told with its bytes
+pub written_told : (t t' : Told) (bytes : Text) → t' ≡ told_after (file_written bytes) t → IsTold t' (Some bytes)
+written_told None t' bytes e = subst (λ (x : Told). IsTold x (Some bytes)) (sym e) tt
+written_told (Some content) t' bytes e = subst (λ (x : Told). IsTold x (Some bytes)) (sym e) refl
+
 -- ---- what was read
+
+-- what was read of a file, where the file is told
+pub read_told : (t : Told) (from len : ℕ) (v : Text) → t ≢ None → t ≢ Some None → ((bs : Text) → t ≡ Some (Some bs) → (from + len ≤ length bs) × (v ≡ take len (drop from bs)))
+    → v ≡ take len (drop from (bytes_told t))
+read_told None from len v all there read = absurd (all refl)
+read_told (Some None) from len v all there read = absurd (there refl)
+read_told (Some (Some bs)) from len v all there read = (read bs refl).1
+
+-- a file that doesn't end before the bound reaches it
+pub not_before : (ends : Bool) (size long bound : ℕ) → (size < bound → ends ≡ true) → ends ≡ false → size ≡ long → bound ≤ long
+not_before ends size long bound h is e =
+    let no : size < bound → ⊥ = λ lt. absurd (let never : true ≡ false = sym (h lt) ∙ is in cc) in
+    omega (arith, e, no)
 
 -- what is told of each file is what is told of all
 pub as_one : (old new : ToldFiles) → ((q : FileName) → new q ≡ old q) → new ≡ old
