@@ -1,0 +1,12 @@
+use Rattle.std.proofs.Common.{◌∙◌, map, ap}
+use Rattle.cat_model.specs.RowSets.{both, joined}
+use Rattle.cat_views.specs.cat_segment.Ranges.{lies_between}
+use Rattle.cat_search.proofs.in_range.InRange.into_rows.Goals as goal
+
+pub returns : goal.returns
+returns c =
+    let range = c.self.inside in
+    record {
+      ok = c.and_with.ensures ∙ ap (λ s. joined both s c.rows.result.now) c.in_ok-rows.ensures.ok
+          ∙ ap (joined both (map (lies_between range.low range.high) range.numbers.now)) (c.rows.ensures ∙ c.live.ensures.value) ∙ c.self.view_is;
+    }
