@@ -1,12 +1,14 @@
 -- Queries that are noted, and sets that are given up.
-use Rattle.std.proofs.Common.{◌≡◌, ℕ, Bool, true, false, cond, List, [], ◌∷◌, ◌++◌, map, Option, Some, None, refl, sym, ap, ◌∙◌}
-use Rattle.std.specs.Prelude.{◌||◌, not}
+use Rattle.std.proofs.Common.{◌≡◌, ℕ, ◌<◌, ◌≤◌, Bool, true, false, cond, List, [], ◌∷◌, ◌++◌, length, drop, map, Option, Some, None, refl, sym, ap, ◌∙◌, arith}
+use Rattle.std.specs.Prelude.{◌||◌, ◌-◌, not}
+use Rattle.std.proofs.lemmas.List.{length-append, length-map, map_push}
 use Rattle.std.specs.List.{list_any}
 use Rattle.std.specs.Option.{option_map_or}
 use Rattle.cat_model.specs.Query as model
 use Rattle.cat_query.specs.declared.query.Query.{Query}
 use Rattle.cat_query.specs.Same.{same_query}
 use Rattle.cat_query.specs.View.{query_of}
+use Rattle.cat_cached_sets.specs.cache.Cached.{CachedSet}
 use Rattle.cat_cached_sets.specs.cache.Warmed.{Warm}
 use Rattle.cat_cached_sets.specs.filters.Filters.{Filters, most_noted, newest, noted_with, filters_without}
 
@@ -30,6 +32,41 @@ noted_again qs noted q b same is present =
     let there : list_any (λ p. same_query p q) noted ≡ true =
     ap (list_any (λ p. same_query p q)) (sym same) ∙ any_of q qs ∙ sym is ∙ present in
     sym (ap (λ b. cond b noted (newest most_noted (noted ++ q ∷ []))) there)
+
+-- ---- one more
+
+-- as many as are kept stay
+newest-few : {A : Type 0} (n : ℕ) (xs : List A) → length xs ≤ n → newest n xs ≡ xs
+newest-few n xs few = ap (λ (k : ℕ). drop k xs) (let none : length xs - n ≡ 0 = omega (arith, few) in none)
+
+-- one more than that, and the first goes
+newest-one_more : {A : Type 0} (n : ℕ) (xs : List A) (x : A) → length xs ≡ n → 0 < n → newest n (xs ++ x ∷ []) ≡ drop 1 xs ++ x ∷ []
+newest-one_more n [] x full some = absurd (omega (arith, full, some))
+newest-one_more n (y ∷ ys) x full some =
+    ap (λ (k : ℕ). drop k ((y ∷ ys) ++ x ∷ [])) (let one : length ((y ∷ ys) ++ x ∷ []) - n ≡ 1 = omega (arith, full, length-append (y ∷ ys) (x ∷ [])) in one)
+
+without_first : (qs : List Query) → map query_of (drop 1 qs) ≡ drop 1 (map query_of qs)
+without_first [] = refl
+without_first (q ∷ qs) = refl
+
+-- where there is room the query comes last
+pub note_kept : (before mid after : List Query) (q : Query) → length before < most_noted → mid ≡ before → after ≡ mid ++ q ∷ []
+    → map query_of after ≡ newest most_noted (map query_of before ++ query_of q ∷ [])
+note_kept before mid after q room is e =
+    ap (map query_of) e ∙ map_push query_of mid q ∙ ap (λ (l : List Query). map query_of l ++ query_of q ∷ []) is
+    ∙ sym (newest-few most_noted (map query_of before ++ query_of q ∷ []) (omega (arith, room, length-append (map query_of before) (query_of q ∷ []), length-map before query_of)))
+
+-- where there is none the oldest goes
+pub note_pushed : (before mid after : List Query) (q : Query) → length before ≡ most_noted → mid ≡ drop 1 before → after ≡ mid ++ q ∷ []
+    → map query_of after ≡ newest most_noted (map query_of before ++ query_of q ∷ [])
+note_pushed before mid after q full is e =
+    ap (map query_of) e ∙ map_push query_of mid q ∙ ap (λ (l : List Query). map query_of l ++ query_of q ∷ []) is
+    ∙ ap (λ (l : List model.Query). l ++ query_of q ∷ []) (without_first before)
+    ∙ sym (newest-one_more most_noted (map query_of before) (query_of q) (length-map before query_of ∙ full) (omega arith))
+
+pub same_filters : {a b : List CachedSet} {m n : List model.Query} {v w : Option Warm} → a ≡ b → m ≡ n → v ≡ w
+    → ◌≡◌ {A = Filters} (record { cached = a; noted = m; warming = v }) (record { cached = b; noted = n; warming = w })
+same_filters cached noted warming = λ i. record { cached = cached i; noted = noted i; warming = warming i }
 
 -- ---- giving up
 
