@@ -6,7 +6,7 @@ use Rattle.std.proofs.lemmas.Bool.{both_ways}
 use Rattle.std.proofs.lemmas.List.{get_or_default}
 use Rattle.cat_model.specs.Files.{Name}
 use Rattle.cat_directory.specs.declared.name.FileName.{FileName}
-use Rattle.cat_directory.specs.Devices.{Told, told_after, file_written, NoMore, IsSettled}
+use Rattle.cat_directory.specs.Devices.{CountsWriting, Told, WritingCount, told_after, file_written, NoMore, IsSettled}
 use Rattle.cat_directory.specs.Names.{name_of}
 use Rattle.cat_ledger_laws.specs.model.Users.{has_name, same_file_name}
 use Rattle.cat_ledger_laws.proofs.model.Counted.{same_name_is}
@@ -24,6 +24,14 @@ fault_is (Err x) e so = ap Err so.1
 -- what holds of a refusal holds of it where a `?` passes it on
 pub passed : {T : Type 0} (P : Refusal → Type 0) (r : Result T Refusal) (e : Refusal) → IsErr r × IsErrAnd r (λ x. x ≡ e) → P e → IfErr r P
 passed P r e so p = subst (λ (r : Result _ Refusal). IfErr r P) (sym (fault_is r e so)) p
+
+-- a refusal that a `?` passes on was counted
+pub counts_passed : {T : Type 0} (old new : ℕ) (r : Result T Refusal) (e : Refusal) → IsErr r × IsErrAnd r (λ x. x ≡ e) → WritingCount old new e → CountsWriting old new r
+counts_passed old new r e so counted = subst (λ (r : Result _ Refusal). CountsWriting old new r) (sym (fault_is r e so)) counted
+
+-- behind calls that count nothing
+pub counts_after : {T : Type 0} (old mid new : ℕ) (r : Result T Refusal) (e : Refusal) → IsErr r × IsErrAnd r (λ x. x ≡ e) → mid ≡ old → WritingCount mid new e → CountsWriting old new r
+counts_after old mid new r e so same counted = counts_passed old new r e so (subst (λ (n : ℕ). WritingCount n new e) same counted)
 
 -- ---- names
 

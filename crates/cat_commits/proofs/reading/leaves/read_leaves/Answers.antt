@@ -9,7 +9,7 @@ use Rattle.cat_ledger_laws.specs.model.Opening.{IsLeafOf, AreLeavesOf}
 use Rattle.cat_ledger_laws.specs.shape.OpeningLaws.{MayHold}
 use Rattle.cat_commits.specs.reading.Told.{Tells}
 use Rattle.cat_commits.proofs.reading.Reading.{any_fault, passed}
-use Rattle.cat_commits.proofs.Frames.{reads_on, told_before}
+use Rattle.cat_commits.proofs.Frames.{fails_after, fails_on, reads_on, told_before}
 use Rattle.cat_commits.proofs.reading.Parts.{first_there, leaf_refuted, leaf_there, leaves_next}
 use Rattle.cat_commits.proofs.reading.leaves.read_leaves.Goals as goal
 
@@ -46,3 +46,18 @@ loop-segment-preserved g c = record {
   frame = reads_on c.loop-segment.invariant.frame c.in_ok-leaf.ensures.frame;
   count = search rules;
 }
+
+pub returns-in_err-leaf-clause-fails : goal.returns-in_err-leaf-clause-fails
+returns-in_err-leaf-clause-fails g c = fails_after c.loop-segment.invariant.frame.can c.loop-segment.invariant.count (fails_on c.from_residual.ensures c.in_err-leaf.ensures.fails)
+
+pub returns-in_err-leaf-clause-frame : goal.returns-in_err-leaf-clause-frame
+returns-in_err-leaf-clause-frame g c = reads_on c.loop-segment.invariant.frame c.in_err-leaf.ensures.frame
+
+pub returns-in_err-push-clause-frame : goal.returns-in_err-push-clause-frame
+returns-in_err-push-clause-frame g c = reads_on c.loop-segment.invariant.frame c.in_ok-leaf.ensures.frame
+
+pub returns-clause-frame : goal.returns-clause-frame
+returns-clause-frame g c = c.loop-segment.invariant.frame
+
+pub returns-clause-fails : goal.returns-clause-fails
+returns-clause-fails g c = record { device = tt; counted = c.loop-segment.invariant.count }
