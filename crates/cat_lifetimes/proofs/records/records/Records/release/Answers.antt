@@ -50,3 +50,13 @@ returns-else-was_held-clause-released c =
     let t = c.args.token in
     let keys : c.shift_remove-was_held.new.self.keys ≡ filter (λ h. not (is_of s t h)) hs = c.shift_remove-was_held.ensures.keys ∙ removed_same c.new.result s t c.new.ensures hs c.len-len.ensures.unique in
     ap (λ (l : List Hold). shown rs l) keys ∙ ap (λ (r : Records). released r s t) c.self.view_is
+
+pub returns-then-was_held-clause-held : goal.returns-then-was_held-clause-held
+returns-then-was_held-clause-held c =
+    c.shift_remove-was_held.ensures.found ∙ has_same c.new.result c.args.session c.args.token c.new.ensures c.self.inside.holds.keys
+    ∙ ap (λ (r : Records). has_hold r.holds c.args.session c.args.token) c.self.view_is
+
+pub returns-else-was_held-clause-held : goal.returns-else-was_held-clause-held
+returns-else-was_held-clause-held c =
+    c.shift_remove-was_held.ensures.found ∙ has_same c.new.result c.args.session c.args.token c.new.ensures c.self.inside.holds.keys
+    ∙ ap (λ (r : Records). has_hold r.holds c.args.session c.args.token) c.self.view_is
