@@ -1,10 +1,12 @@
 -- What was found of files that no call between has changed.
-use Rattle.std.proofs.Common.{◌≡◌, ◌∙◌, ℕ, ◌+◌, ◌<◌, Bool, true, false, List, [], ◌∷◌, ◌++◌, get_or, length, take, Option, Some, None, Result, Ok, Err, IfOk, ap, sym, subst}
+use Rattle.std.proofs.Common.{◌≡◌, ◌≢◌, ◌∙◌, ◌⊎◌, inl, inr, ℕ, ◌+◌, ◌<◌, Bool, true, false, List, [], ◌∷◌, ◌++◌, get_or, length, take, Option, Some, None, Result, Ok, Err, IfOk, ap, refl, sym, subst, true≢false}
 use Rattle.std.specs.Prelude.{All, MatchBool, map}
 use Rattle.std.proofs.lemmas.List.{map_push, take_more}
 use Rattle.std.proofs.lemmas.List.Elements.{All-push}
 use Rattle.cat_directory.specs.declared.name.FileName.{FileName}
 use Rattle.cat_directory.specs.Devices.{FileContent}
+use Rattle.cat_directory.specs.Names.{same_name}
+use Rattle.cat_directory.specs.NameOrder.{same_name_equivalence, same_name_is}
 use Rattle.cat_ledger_laws.specs.shape.Ties.{ToldFiles}
 use Rattle.cat_check.specs.declared.report.Report.{Report}
 use Rattle.cat_check.specs.declared.verdict.Verdict.{Verdict}
@@ -12,6 +14,7 @@ use Rattle.cat_check.specs.declared.verdict.Verdict.TheVariants as verdict
 use Rattle.cat_directory.specs.Frames.{OnlyReads}
 use Rattle.cat_check.specs.Judged.{IsCommitWhole, IsLost, IsJudged}
 use Rattle.cat_check.specs.Checked.{IsNewestReport}
+use Rattle.cat_check.specs.Standing.{IsDroppable}
 use Rattle.cat_commits.proofs.Frames.{so_before}
 
 -- each of them is judged
@@ -65,3 +68,12 @@ if_true false P Q e h = absurd (let never : false ≡ true = e in cc)
 pub if_false : (b : Bool) (P Q : Type 0) → b ≡ false → MatchBool b P Q → Q
 if_false true P Q e h = absurd (let never : true ≡ false = e in cc)
 if_false false P Q e h = h
+
+-- where no file but one changes, each stays or is that one
+pub none_but_one : (before between after : ToldFiles) (name : FileName) → ((q : FileName) → between q ≡ before q) → ((q : FileName) → q ≢ name → after q ≡ between q)
+    → IsDroppable before name → (q : FileName) → (after q ≡ before q) ⊎ IsDroppable before q
+none_but_one before between after name same others droppable q = by (same_name q name) refl
+  where
+    by : (b : Bool) → same_name q name ≡ b → (after q ≡ before q) ⊎ IsDroppable before q
+    by true is = inr (subst (IsDroppable before) (sym (same_name_is q name is)) droppable)
+    by false is = inl (others q (λ e. true≢false (sym (ap (λ x. same_name x name) e ∙ same_name_equivalence.refl name) ∙ is)) ∙ same q)

@@ -1,3 +1,4 @@
 pub mod Agreeing
 pub mod Before
 pub mod Older
+mod Pieces
