@@ -1,5 +1,5 @@
 -- What a commit makes of a shape, and of what a device tells.
-use Rattle.std.proofs.Common.{◌≡◌, ℕ, ◌+◌, ◌<◌, ◌≤◌, ◌^◌, Bool, List, [], ◌∷◌, ◌++◌, filter, length, not, Some, sym, ◌∙◌, ap, ap₂, subst, arith, inl, inr, ◌||◌, refl, false, true, cond}
+use Rattle.std.proofs.Common.{◌≡◌, ℕ, ◌+◌, ◌<◌, ◌≤◌, ◌^◌, Bool, List, [], ◌∷◌, ◌++◌, filter, length, not, Some, sym, ◌∙◌, ap, ap₂, subst, arith, inl, inr, ◌||◌, refl, true, cond}
 use Rattle.std.specs.List.{AllByRecursion, flat_map}
 use Rattle.cat_model.specs.Text.{Text}
 use Rattle.cat_model.specs.Item.{Schema, IsSchema}

@@ -1,5 +1,5 @@
 -- What a flush makes of a shape, and of what a device tells.
-use Rattle.std.proofs.Common.{◌≡◌, ◌≢◌, ℕ, ◌+◌, ◌-◌, ◌<◌, ◌≤◌, ◌^◌, Bool, true, false, ◌||◌, cond, List, [], ◌∷◌, ◌++◌, length, map, take, replicate, Some, refl, sym, ◌∙◌, ap, ap₂, subst, arith, inl, inr}
+use Rattle.std.proofs.Common.{◌≡◌, ◌≢◌, ◌↔◌, IsTrue, ℕ, ◌+◌, ◌-◌, ◌<◌, ◌≤◌, ◌^◌, Bool, true, false, ◌||◌, cond, List, [], ◌∷◌, ◌++◌, length, map, take, replicate, Some, refl, sym, ◌∙◌, ap, ap₂, subst, arith, inl, inr}
 use Rattle.std.proofs.lemmas.Bool.{true≢false}
 use Rattle.std.proofs.Math.Seq.{take-append_seam}
 use Rattle.std.proofs.lemmas.List.{length-map, length-append}
@@ -71,10 +71,16 @@ other_files n P others q out = others q (other_segment n q out) (other_source n 
 
 -- ---- done
 
+-- something waits where it isn't so that nothing does
+pub some_waits : (b : Bool) (rs : List Record) → b ≡ false → (IsTrue b ↔ (rs ≡ [])) → 0 < length rs
+some_waits b [] waits is = absurd (true≢false (sym (is.1 refl) ∙ waits))
+some_waits b (r ∷ rs) waits is = omega arith
+
 pub flush_is : (s : Shape) (leaf : Leaf) (leaves' : List Leaf) (buffered' : List Record) (users' : List Used) → leaf ≡ flushed_leaf s
-    → s.next_segment ≤ last_number → leaves' ≡ s.leaves ++ leaf ∷ [] → buffered' ≡ [] → Changes (names_of_leaves (leaf ∷ [])) [] s.users users'
+    → 0 < length s.buffered → s.next_segment ≤ last_number → leaves' ≡ s.leaves ++ leaf ∷ [] → buffered' ≡ [] → Changes (names_of_leaves (leaf ∷ [])) [] s.users users'
     → IsFlushed s (record s { leaves = leaves'; buffered = buffered'; users = users'; next_segment = s.next_segment + 1 })
-flush_is s leaf leaves' buffered' users' is left leaves buffered users = record {
+flush_is s leaf leaves' buffered' users' is some left leaves buffered users = record {
+  some = some;
   left = left;
   users = subst (λ l. Changes (names_of_leaves (l ∷ [])) [] s.users users') is users;
   rest = ap₂ (λ ls bs. record s { leaves = ls; buffered = bs; users = users'; next_segment = s.next_segment + 1 })

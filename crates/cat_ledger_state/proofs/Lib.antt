@@ -1,8 +1,11 @@
 pub mod Committing
 pub mod Counting
+pub mod Failing
 pub mod Flushing
 pub mod Leaving
 pub mod Installing
+pub mod Known
+pub mod Few
 pub mod Merging
 pub mod Releasing
 pub mod Restoring

@@ -14,3 +14,8 @@ on_err P Q (Err e) f p = f p
 pub on_any : {X E : Type 0} (A : Type 0) (e : E) (r : Result X E) → A → IfErr r (λ x. x ≡ e → A)
 on_any A e (Ok x) a = tt
 on_any A e (Err x) a = λ is. a
+
+-- what is so is said of a refusal
+pub either_err : {X E A : Type 0} (r : Result X E) → A → OnErr r A
+either_err (Ok x) a = tt
+either_err (Err e) a = a

@@ -1,12 +1,13 @@
 -- What memory has of a ledger, as a shape; what always holds of it; and what a flush or a refusal makes of it and of the device.
-use Rattle.std.specs.Prelude.{◌≡◌, ◌≢◌, ◌⊎◌, ◌<◌, ◌≤◌, Bool, true, List, [], ◌∷◌, length, Option, Some, None, option_map, Any}
+use Rattle.std.specs.Prelude.{◌≡◌, ◌≢◌, ◌⊎◌, ℕ, ◌<◌, ◌≤◌, Bool, true, List, [], ◌∷◌, length, Option, Some, None, option_map, Any}
 use Rattle.cat_model.specs.Files.{Name}
 use Rattle.cat_model.specs.Item.{Schema}
 use Rattle.cat_model.specs.Limits.{last_number, segment_limit}
 use Rattle.cat_model.specs.Merged.{rows_of_all}
 use Rattle.cat_directory.specs.Names.{name_of}
 use Rattle.cat_directory.specs.declared.name.FileName.{FileName}
-use Rattle.cat_ledger_laws.specs.model.Users.{Used, has_name, is_known}
+use Rattle.cat_ledger_laws.specs.model.Ledger.{IsPast}
+use Rattle.cat_ledger_laws.specs.model.Users.{Used, has_name, is_known, users_of}
 use Rattle.cat_ledger_laws.specs.shape.Shapes.{MergingShape, Shape, IsShape, flushed_leaf, names_of_leaves}
 use Rattle.cat_ledger_laws.specs.shape.Steps.{IsFlushed, IsCopied, IsEnded, Leaves}
 use Rattle.cat_ledger_laws.specs.shape.MergeLaws.{CopiesOn}
@@ -39,12 +40,22 @@ abbrev pub MergesUnder : Schema → Option InMaking → Type 0
 MergesUnder schema None = Unit {0}
 MergesUnder schema (Some m) = m.schema ≡ schema
 
--- It is the shape of some ledger; what waits, and a merge, have its schema; and a commit can list its segments.
+-- the numbers of each known name, used or pending, were given out
+abbrev pub KnownArePast : List Used → ℕ → ℕ → Type 0
+KnownArePast us n g = (q : Name) → is_known us q ≡ true → IsPast n g q
+
+-- a name that is known now was known before, or somebody uses it
+abbrev pub ComesUsed : List Used → List Used → Type 0
+ComesUsed old new = (q : Name) → is_known new q ≡ true → (is_known old q ≡ true) ⊎ (0 < users_of new q)
+
+-- It is the shape of some ledger; what waits, and a merge, have its schema; a commit can list its segments; and no name is known, used
+-- or pending, whose numbers weren't given out.
 pub record IsCore (c : Inside) : Type 0 where
   pub shape : IsShape (shape_of_core c)
   pub waits : c.buffer.schema ≡ c.schema
   pub few : length c.current ≤ segment_limit
   pub merges : MergesUnder c.schema c.merging
+  pub known : KnownArePast c.refs c.next_segment c.next_generation
 
 -- the names of the files that a flush begins
 abbrev pub flush_begins : Shape → List Name

@@ -1,7 +1,7 @@
 //! What is asked of the state, which changes nothing and takes no memory.
 //!
 //! Lucene's `IndexWriter.getDocStats` and `numRamDocs`, and what `IndexFileDeleter` and `SearcherLifetimeManager` count.
-ghost use Rattle.std.specs.Prelude.{◌≡◌, ◌≤◌, ◌==◌, ◌↔◌, [], length, count_by, find, option_map, is_some, true, IsTrue};
+ghost use Rattle.std.specs.Prelude.{◌≡◌, ◌+◌, ◌*◌, ◌≤◌, ◌==◌, ◌↔◌, [], length, count_by, find, option_map, is_some, true, IsTrue};
 ghost use Rattle.std.specs.List.{list_any};
 ghost use Rattle.cat_model.specs.Limits.{buffer_limit};
 ghost use Rattle.cat_model.specs.Run.{greatest, is_full};
@@ -157,5 +157,13 @@ impl Core {
         ensures { result ≡ count_by (λ u. u.users == 0) self.now.users }
     {
         self.refs.pending()
+    }
+
+    /// Few files can be pending, for a caller's proof; it does nothing. The numbers of each known name were given out, and each stands
+    /// once: below the next number of a segment and of a commit there are so many names, and two fewer.
+    pub fn few_are_pending(&self)
+        ensures { count_by (λ u. u.users == 0) self.now.users + 2 ≤ self.now.next_segment * (self.now.next_generation + 1) }
+    {
+        self.refs.stand_once();
     }
 }

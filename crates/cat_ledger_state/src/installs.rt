@@ -1,7 +1,7 @@
 //! The end of a merge: its segment stands in the place of those that it took.
 //!
 //! Lucene's `IndexWriter.commitMerge`, with the end of `mergeMiddle`.
-ghost use Rattle.std.specs.Prelude.{◌≡◌, ◌≢◌, ◌⊎◌, ◌+◌, ◌<◌, ◌^◌, ◌++◌, ◌∷◌, [], map, length, take, IfOk, IfErr, OnOk, OnErr, ◌≤◌};
+ghost use Rattle.std.specs.Prelude.{◌≡◌, ◌≢◌, ◌⊎◌, ℕ, ◌+◌, ◌<◌, ◌^◌, ◌++◌, ◌∷◌, [], map, length, take, IfOk, IfErr, OnOk, OnErr, ◌≤◌};
 ghost use Rattle.std.specs.List.{AllByRecursion};
 ghost use Rattle.std.specs.Option.{option_to_list};
 ghost use Rattle.cat_base.specs.declared.refusal.Refusal.TheVariants.{Memory, Device};
@@ -14,11 +14,12 @@ ghost use Rattle.cat_directory.specs.Devices.{NoMore};
 ghost use Rattle.cat_directory.specs.Frames.{FailsWriting};
 ghost use Rattle.cat_directory.specs.Names.{name_of};
 ghost use Rattle.cat_directory.specs.declared.name.FileName.{FileName};
+ghost use Rattle.cat_ledger_laws.specs.model.Ledger.{IsTaken};
 ghost use Rattle.cat_ledger_laws.specs.model.Users.{users_of, times, Changes};
 ghost use Rattle.cat_ledger_laws.specs.shape.Shapes.{names_of_leaves};
 ghost use Rattle.cat_ledger_laws.specs.shape.Steps.{window_now};
 ghost use Rattle.cat_ledger_laws.specs.shape.Ties.{TellsBytes};
-ghost use Rattle.cat_ledger_state.specs.Cores.{StayKnown};
+ghost use Rattle.cat_ledger_state.specs.Cores.{KnownArePast, StayKnown};
 ghost use Rattle.cat_ledger_state.specs.Installs.{HasAllPassed, HasFailed, HasInstalled, IsOfMerge, MayInstall, MayPlace, made_of, placed_in};
 
 use crate::merges::give_source;
@@ -173,8 +174,8 @@ fn end_moves(refs: &mut FileRefs, moves: Moves, placed: &Result<(), Refusal>)
 }
 
 /// Puts the segment of the merge in the place of those that it takes, writes its file, and moves the users of the files of all of
-/// these. An error leaves the list and the users as they are; the names of the new segment may be known then, and those that were
-/// known stay so.
+/// these. An error leaves the list and the users as they are; the names of the new segment may be known then, no others come, and those
+/// that were known stay so.
 fn install_merged<D: Directory>(
     current: &mut Current,
     refs: &mut FileRefs,
@@ -195,6 +196,7 @@ fn install_merged<D: Directory>(
     ensures err { OnErr result (current.new ≡ current.old) }
     ensures same { OnErr result ((q : Name) → users_of refs.new q ≡ users_of refs.old q) }
     ensures known { OnErr result (StayKnown refs.old refs.new) }
+    ensures past { OnErr result ((n g : ℕ) → IsTaken n merge.shape.number → KnownArePast refs.old n g → KnownArePast refs.new n g) }
     ensures fails { FailsWriting D.can_fail D.fault_count device.old device.new result }
     ensures refusal { IfErr result (λ e. (e ≡ Memory) ⊎ (e ≡ Device)) }
 {

@@ -14,6 +14,7 @@ ghost use Rattle.cat_lifetimes.specs.refs.Counts.{names_in};
 ghost use Rattle.cat_ledger_laws.specs.shape.OpeningLaws.{IsCountedAt, IsCountedEmpty, MayHold, empty_at, opened_at};
 ghost use Rattle.cat_ledger_laws.specs.shape.Ties.{ToldFiles};
 ghost use Rattle.cat_ledger_state.specs.Commits.{users_at};
+ghost use Rattle.cat_ledger_state.specs.Cores.{ComesUsed, KnownArePast};
 
 use crate::state::Core;
 use cat_base::{Generation, SegNo, Token};
@@ -64,6 +65,7 @@ fn count_users(
     requires few { (q : Name) → users_of refs.old q + users_at view.now commit.now q < 2 ^ 64 }
     ensures users { OnOk result ((q : Name) → users_of refs.new q ≡ users_of refs.old q + users_at view.now commit.now q) }
     ensures known { OnOk result ((q : Name) → is_known refs.old q ≡ true → is_known refs.new q ≡ true) }
+    ensures used { OnOk result (ComesUsed refs.old refs.new) }
 {
     let files = view.files(alloc)?;
     refs.take(&files)?;
@@ -85,7 +87,8 @@ impl Core {
     /// A commit that was read, with its segments: they stand, a view of them is recorded under the commit's token, and it is the
     /// only commit. Nobody holds a view, and no snapshot is taken. (Lucene: `IndexWriter` over an `IndexCommit`.)
     ///
-    /// Nobody uses a name before, and the numbers are those that are taken next, which no file of the commit has.
+    /// Nobody uses a name before, and the numbers are those that are taken next, which no file of the commit has, nor has a known
+    /// name.
     pub fn opened(
         alloc: Global,
         schema: Schema,
@@ -97,6 +100,7 @@ impl Core {
         requires restored { (told : ToldFiles) × (g : ℕ) × IsRestored (MayHold told) schema g restored }
         requires unused { (q : Name) → users_of refs q ≡ 0 }
         requires past { All (IsPast next_segment next_generation) (commit_needs restored.commit) }
+        requires known { KnownArePast refs next_segment next_generation }
         requires some { 0 < next_segment }
         requires left { (next_segment ≤ last_number + 1) × (next_generation ≤ last_number + 1) }
         ensures counted { IfOk result (λ c. IsCountedAt schema restored c.users next_segment next_generation) }
@@ -130,7 +134,7 @@ impl Core {
     }
 
     /// No item, segment or commit: a view of nothing is recorded under token 0. Nobody uses a name, and the numbers are those
-    /// that are taken next.
+    /// that are taken next, which no known name has.
     pub fn empty(
         alloc: Global,
         schema: Schema,
@@ -138,7 +142,8 @@ impl Core {
         next_segment: SegNo,
         next_generation: Generation,
     ) -> Result<Core, AllocError>
-        requires { IsCountedEmpty refs next_segment next_generation }
+        requires counted { IsCountedEmpty refs next_segment next_generation }
+        requires known { KnownArePast refs next_segment next_generation }
         ensures { IfOk result (λ c. c ≡ empty_at schema refs next_segment next_generation) }
     {
         let view = View::of(alloc, schema.copy()?, Vec::new(alloc), 0)?;

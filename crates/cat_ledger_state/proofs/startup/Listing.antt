@@ -16,10 +16,11 @@ use Rattle.cat_directory.specs.Names.{name_of, name_cmp, same_name}
 use Rattle.cat_directory.specs.NameOrder.{same_name_is, same_name_equivalence, names_tie}
 use Rattle.cat_lifetimes.specs.refs.Counts.{names_in}
 use Rattle.cat_lifetimes.proofs.refs.Named.{of_files, times_in, has_in, count_by-cons}
-use Rattle.cat_ledger_laws.specs.model.Users.{times, has_name}
+use Rattle.cat_ledger_laws.specs.model.Users.{Used, is_known, times, has_name}
 use Rattle.cat_ledger_laws.specs.model.Ledger.{IsPast, IsTaken}
 use Rattle.cat_ledger_laws.specs.shape.Ties.{ToldFiles}
 use Rattle.cat_commits.specs.reading.Numbers.{AreNext, IsNewest}
+use Rattle.cat_ledger_state.specs.Cores.{KnownArePast}
 use Rattle.cat_ledger_state.specs.startup.Newest.{IsNewestCommit, HasNoCommit}
 
 -- ---- names in code are those that contain them
@@ -68,3 +69,8 @@ none_is told names lists none h bytes is = none h (lists.complete (file.Commit h
 -- its number was taken
 pub newest_taken : (names : List FileName) (n g generation : ℕ) → AreNext names n g → IsNewest names generation → IsTaken g generation
 newest_taken names n g generation next newest = All-contains (λ q. IsPast n g (name_of q)) names (file.Commit generation) next.past newest.there
+
+-- so were those of each known name
+pub names_past : (names : List FileName) (us : List Used) (n g : ℕ) → ((q : Name) → is_known us q ≡ has_name q (names_in names)) → AreNext names n g → KnownArePast us n g
+names_past names us n g known next = of_files (λ q. is_known us q ≡ true → IsPast n g q)
+    (λ k there. All-contains (λ q. IsPast n g (name_of q)) names k next.past (contained names k (sym (known (name_of k)) ∙ there)))

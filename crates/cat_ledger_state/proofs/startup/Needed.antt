@@ -39,7 +39,7 @@ or_more true b c f e = refl
 or_more false b c f e = f e
 
 -- what holds of all names holds of one that is among them
-of_named : (P : Name → Type 0) (q : Name) (names : List Name) → AllByRecursion P names → has_name q names ≡ true → P q
+pub of_named : (P : Name → Type 0) (q : Name) (names : List Name) → AllByRecursion P names → has_name q names ≡ true → P q
 of_named P q [] a e = absurd (let no : false ≡ true = e in cc)
 of_named P q (x ∷ xs) a e = elim (or_either (same_file_name q x) (has_name q xs) e) [
   | inl h ↦ subst P (sym (same_name_is q x h)) a.0
@@ -92,7 +92,7 @@ module _ (told : ToldFiles) where
 
 -- ---- nobody uses others
 
-some_named : (q : Name) (names : List Name) → 0 < times q names → has_name q names ≡ true
+pub some_named : (q : Name) (names : List Name) → 0 < times q names → has_name q names ≡ true
 some_named q [] some = absurd (omega (arith, some))
 some_named q (x ∷ xs) some = by (same_file_name q x) (count_by-cons (same_file_name q) x xs) (some_named q xs)
   where
@@ -155,7 +155,7 @@ live_past n g x taken less = by (x.file == 0) (eqb_tells x.file 0)
     by false (inl k) = absurd (let no : false ≡ true = k.0 in cc)
     by false (inr k) = ((taken, (omega (arith, k.1), less)), tt)
 
-listed_past : (n g next generation : ℕ) → next ≤ n → generation < g → (xs : List ListedSegment) → AllByRecursion (IsListed generation next) xs
+pub listed_past : (n g next generation : ℕ) → next ≤ n → generation < g → (xs : List ListedSegment) → AllByRecursion (IsListed generation next) xs
     → AllByRecursion (IsPast n g) (flat_map listed_names xs)
 listed_past n g next generation low less [] a = tt
 listed_past n g next generation low less (x ∷ xs) a =

@@ -16,6 +16,7 @@ ghost use Rattle.cat_ledger_laws.specs.shape.OpeningLaws.{IsCountedEmpty, MayHol
 ghost use Rattle.cat_commits.specs.reading.Refused.{CountsOpening};
 ghost use Rattle.cat_commits.specs.reading.Told.{Tells};
 ghost use Rattle.cat_ledger_laws.specs.shape.Ties.{ToldFiles};
+ghost use Rattle.cat_ledger_state.specs.Cores.{KnownArePast};
 ghost use Rattle.cat_ledger_state.specs.startup.Found.{TellsNames};
 ghost use Rattle.cat_ledger_state.specs.startup.Opened.{HasOpened, IsRestoredAt, IsStateAt};
 ghost use Rattle.cat_ledger_state.specs.startup.Refused.{IsLostUnder, IsNewestDamaged, IsNewestForeign};
@@ -101,6 +102,7 @@ fn state_at(
 ) -> Result<Core, AllocError>
     requires restored { (told : ToldFiles) × IsRestored (MayHold told) schema restored.commit.generation restored }
     requires unused { (q : Name) → users_of refs q ≡ 0 }
+    requires known { KnownArePast refs next.0 next.1 }
     requires numbers { (0 < next.0) × IsTaken next.1 restored.commit.generation }
     requires left { (next.0 ≤ last_number + 1) × (next.1 ≤ last_number + 1) }
     ensures ok { IfOk result (IsStateAt schema restored next.0 next.1) }
@@ -121,6 +123,7 @@ fn open_at<D: Directory + Shelf>(
     generation: Generation,
 ) -> Result<Core, Refusal>
     requires unused { (q : Name) → users_of refs q ≡ 0 }
+    requires known { KnownArePast refs next.0 next.1 }
     requires numbers { (0 < next.0) × IsTaken next.1 generation }
     requires left { (next.0 ≤ last_number + 1) × (next.1 ≤ last_number + 1) }
     ensures ok { IfOk result (IsRestoredAt (D.bytes device.old) schema generation next.0 next.1) }
@@ -148,7 +151,8 @@ fn open_empty<D: Directory>(
     refs: FileRefs,
     next: (SegNo, Generation),
 ) -> Result<Core, Refusal>
-    requires { IsCountedEmpty refs next.0 next.1 }
+    requires counted { IsCountedEmpty refs next.0 next.1 }
+    requires known { KnownArePast refs next.0 next.1 }
     ensures ok { IfOk result (λ s. s ≡ empty_at schema refs next.0 next.1) }
     ensures gone { OnOk result ((q : FileName) → D.bytes device.old q ≡ Some None
         → IsSettled (D.bytes device.old q) (D.may_leave device.new q)) }

@@ -1,4 +1,4 @@
-use Rattle.std.proofs.Common.{◌≡◌, ◌+◌, ◌≤◌, ◌<◌, ◌∙◌, true, length, ap, subst}
+use Rattle.std.proofs.Common.{◌≡◌, ◌∙◌, true, ap, subst}
 use Rattle.cat_model.specs.Write.{Write}
 use Rattle.cat_ledger_laws.specs.model.Leaves.{has_live_id, leaves_after}
 use Rattle.cat_ledger_state.proofs.Writing.{put_undone}

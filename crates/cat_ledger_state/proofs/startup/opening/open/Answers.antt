@@ -3,7 +3,7 @@ use Rattle.std.specs.Prelude.{Contains, MatchOption}
 use Rattle.std.proofs.lemmas.Result.{IfOk-weaker, IfErr-weaker}
 use Rattle.cat_directory.specs.declared.name.FileName.TheVariants as file
 use Rattle.cat_commits.specs.reading.Numbers.{IsNewest}
-use Rattle.cat_ledger_state.proofs.startup.Listing.{newest_taken}
+use Rattle.cat_ledger_state.proofs.startup.Listing.{names_past, newest_taken}
 use Rattle.cat_ledger_state.proofs.startup.Made.{at_commit, where_none, ok_of_both, err_of_both, told_settled, restored_as_told, is_damaged, is_foreign}
 use Rattle.cat_ledger_state.proofs.startup.opening.open.Goals as goal
 
@@ -12,17 +12,20 @@ open_at-requires g c =
     let newest = subst (λ o. MatchOption o ((h : ℕ) → Contains c.in_ok-refs.ensures.ok.names (file.Commit h) → ⊥) (IsNewest c.in_ok-refs.ensures.ok.names)) c.in-Some.is c.in_ok-refs.ensures.ok.among in
     record {
       unused = c.in_ok-refs.ensures.ok.unused;
+      known = names_past c.in_ok-refs.ensures.ok.names c.in_ok-refs.field-0.refs _ _ c.in_ok-refs.ensures.ok.known c.in_ok-refs.ensures.ok.next;
       numbers = (omega (arith, c.in_ok-refs.ensures.ok.next.some.0), newest_taken c.in_ok-refs.ensures.ok.names _ _ c.in-Some.generation c.in_ok-refs.ensures.ok.next newest);
       left = c.in_ok-refs.ensures.ok.left;
     }
 
 pub open_empty-requires : goal.open_empty-requires
-open_empty-requires g c =
-    record {
-      users = c.in_ok-refs.ensures.ok.unused;
-      some = (omega (arith, c.in_ok-refs.ensures.ok.next.some.0), omega (arith, c.in_ok-refs.ensures.ok.next.some.1));
-      left = c.in_ok-refs.ensures.ok.left;
-    }
+open_empty-requires g c = record {
+  counted = record {
+    users = c.in_ok-refs.ensures.ok.unused;
+    some = (omega (arith, c.in_ok-refs.ensures.ok.next.some.0), omega (arith, c.in_ok-refs.ensures.ok.next.some.1));
+    left = c.in_ok-refs.ensures.ok.left;
+  };
+  known = names_past c.in_ok-refs.ensures.ok.names c.in_ok-refs.field-0.refs _ _ c.in_ok-refs.ensures.ok.known c.in_ok-refs.ensures.ok.next;
+}
 
 pub returns-in-Some-clause-ok : goal.returns-in-Some-clause-ok
 returns-in-Some-clause-ok g c =

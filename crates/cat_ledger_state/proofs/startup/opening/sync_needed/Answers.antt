@@ -1,4 +1,4 @@
-use Rattle.std.proofs.Common.{◌≡◌, ◌∙◌, map, sym, ap, inl, inr}
+use Rattle.std.proofs.Common.{◌∙◌, map, sym, ap, inl, inr}
 use Rattle.std.proofs.lemmas.Result.{on_ok_weaker, IfErr-weaker}
 use Rattle.cat_directory.specs.Names.{name_of}
 use Rattle.cat_ledger_laws.specs.model.Users.{has_name}

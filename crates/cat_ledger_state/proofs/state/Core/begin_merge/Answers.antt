@@ -1,13 +1,16 @@
-use Rattle.std.proofs.Common.{◌≡◌, ◌+◌, ◌≤◌, [], ◌∷◌, None, inr, length, take, drop, sym, ap, subst}
+use Rattle.std.proofs.Common.{◌≡◌, ◌+◌, ◌≤◌, [], ◌∷◌, None, Some, inr, length, take, drop, sym, ap, subst, arith}
 use Rattle.cat_model.specs.Files.{Name}
-use Rattle.cat_model.specs.Limits.{row_limit}
+use Rattle.cat_model.specs.Limits.{last_number, row_limit}
 use Rattle.cat_model.specs.Merged.{rows_of_all}
 use Rattle.cat_ledger_laws.proofs.shape.MergeSteps.{begun_keep}
 use Rattle.cat_ledger_laws.proofs.shape.Writes.{refusals_keep}
+use Rattle.cat_ledger_laws.specs.shape.Steps.{IsBegun}
 use Rattle.cat_ledger_laws.specs.shape.Ties.{TouchesOnly}
 use Rattle.cat_ledger_state.specs.Cores.{HasGivenUp, StayKnown, shape_of_core}
-use Rattle.cat_ledger_state.proofs.Counting.{known_still}
+use Rattle.cat_ledger_state.proofs.Counting.{given_again, known_still}
+use Rattle.cat_ledger_state.proofs.Failing.{writing_counts, writing_refuses, writing_spends_none}
 use Rattle.cat_ledger_state.proofs.Merging.{run_is, may_merge, one_fits, begun_is, begun_left}
+use Rattle.cat_ledger_state.proofs.Known.{source_past, taken_past, undone_past}
 use Rattle.cat_ledger_state.proofs.state.Core.begin_merge.Goals as goal
 
 pub of-requires : goal.of-requires
@@ -21,6 +24,9 @@ pub take_source-requires : goal.take_source-requires
 take_source-requires g c =
     λ q. one_fits (shape_of_core c.self.inside) c.len.result (Name.source c.self.inside.next_segment) q c.self.invariant.shape c.len.ensures.len c.len.ensures.few
 
+pub give_source-requires : goal.give_source-requires
+give_source-requires g c = given_again _ c.self.inside.refs c.take_source.new.refs c.in_ok-take_source.ensures.ok
+
 pub invariant_of-self-in-Ok : goal.invariant_of-self-in-Ok
 invariant_of-self-in-Ok g c =
     let begun = begun_is (shape_of_core c.self.inside) c.args.index c.args.count c.in_ok-merge.merge _ c.take_source.new.refs
@@ -33,6 +39,8 @@ invariant_of-self-in-Ok g c =
       waits = c.self.invariant.waits;
       few = c.self.invariant.few;
       merges = ap (λ m. m.schema) c.in_ok-merge.ensures.ok;
+      known = taken_past _ [] _ _ c.self.inside.next_segment c.self.inside.next_generation (c.self.inside.next_segment + 1) c.self.inside.next_generation (omega arith) (omega arith) (source_past (shape_of_core c.self.inside) c.self.invariant.shape)
+          c.in_ok-take_source.ensures.ok c.self.invariant.known;
     }
 
 pub invariant_of-self-in-Err-1 : goal.invariant_of-self-in-Err-1
@@ -44,6 +52,8 @@ invariant_of-self-in-Err-1 g c =
       waits = c.self.invariant.waits;
       few = c.self.invariant.few;
       merges = c.self.invariant.merges;
+      known = undone_past _ _ _ _ _ c.self.inside.next_segment c.self.inside.next_generation (c.self.inside.next_segment + 1) c.self.inside.next_generation (omega arith) (omega arith) (source_past (shape_of_core c.self.inside) c.self.invariant.shape)
+          c.in_ok-take_source.ensures.ok c.give_source.ensures c.self.invariant.known;
     }
 
 pub returns-in-Err-clause-err : goal.returns-in-Err-clause-err
@@ -60,3 +70,34 @@ pub returns-in-Err-clause-known : goal.returns-in-Err-clause-known
 returns-in-Err-clause-known g c =
     subst (λ s. StayKnown s.users c.give_source.new.refs) c.self.view_is
     (known_still _ _ c.self.inside.refs c.take_source.new.refs c.give_source.new.refs c.in_ok-take_source.ensures.ok c.give_source.ensures)
+
+pub returns-in-Ok-clause-ok : goal.returns-in-Ok-clause-ok
+returns-in-Ok-clause-ok g c =
+    let begun = begun_is (shape_of_core c.self.inside) c.args.index c.args.count c.in_ok-merge.merge _ c.take_source.new.refs
+    (subst (λ s. s.merging ≡ None) (sym c.self.view_is) c.requires.idle) c.if-number-gt-LAST_NUMBER.false c.requires.some
+    (subst (λ s. c.args.index + c.args.count ≤ length s.leaves) (sym c.self.view_is) c.requires.within)
+    (run_is c.self.inside.current c.leaves.result.now c.args.index c.args.count c.leaves.ensures.value) c.in_ok-merge.ensures.ok
+    c.in_ok-take_source.ensures.ok in
+    let new = record (shape_of_core c.self.inside) {
+      merging = Some c.in_ok-merge.merge.shape;
+      users = c.take_source.new.refs;
+      next_segment = c.self.inside.next_segment + 1;
+    } in
+    subst (λ s. IsBegun c.args.index c.args.count s new) c.self.view_is begun
+
+-- ---- what it is refused for
+
+pub returns-in-Ok-clause-fails : goal.returns-in-Ok-clause-fails
+returns-in-Ok-clause-fails g c = writing_counts _ c.in-Ok.ensures.fails
+
+pub returns-in-Err-clause-fails : goal.returns-in-Err-clause-fails
+returns-in-Err-clause-fails g c = writing_counts _ c.in-Err.ensures.fails
+
+pub returns-in-Err-clause-spent : goal.returns-in-Err-clause-spent
+returns-in-Err-clause-spent g c = λ is. absurd (writing_spends_none _ _ c.in-Err.refusal c.in-Err.ensures.fails.counted is)
+
+pub returns-in-Err-clause-refusal : goal.returns-in-Err-clause-refusal
+returns-in-Err-clause-refusal g c = writing_refuses _ _ c.in-Err.refusal c.in-Err.ensures.fails.counted
+
+pub returns-in-Err-clause-due : goal.returns-in-Err-clause-due
+returns-in-Err-clause-due g c = λ is. subst (λ s. s.next_segment ≤ last_number) c.self.view_is c.if-number-gt-LAST_NUMBER.false

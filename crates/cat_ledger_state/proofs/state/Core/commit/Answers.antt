@@ -1,14 +1,15 @@
-use Rattle.std.proofs.Common.{◌≡◌, ◌+◌, ◌≤◌, [], ◌∷◌, map, sym, ◌∙◌, ap, subst, inl, inr, Some, None, true, false}
+use Rattle.std.proofs.Common.{◌≡◌, ◌+◌, ◌≤◌, [], ◌∷◌, map, sym, ◌∙◌, ap, subst, inl, inr, Some, None, true, false, arith}
 use Rattle.std.specs.Prelude.{◌⊎◌}
 use Rattle.std.proofs.lemmas.Result.{IfOk-at_ok, IfErr-at_err}
 use Rattle.cat_base.specs.declared.refusal.Refusal.TheVariants.{Device}
 use Rattle.cat_model.specs.Files.{Name}
-use Rattle.cat_model.specs.CommitFile.{commit_needs, spelled_commit}
+use Rattle.cat_model.specs.CommitFile.{IsCommitFile, commit_needs, spelled_commit}
 use Rattle.cat_directory.specs.Names.{name_of}
 use Rattle.cat_directory.specs.declared.name.FileName.{FileName}
 use Rattle.cat_directory.specs.declared.name.FileName.TheVariants as file
 use Rattle.cat_ledger_laws.specs.model.Users.{has_name, times, users_of}
 use Rattle.cat_ledger_laws.specs.shape.CommitLaws.{names_begun}
+use Rattle.cat_ledger_laws.specs.shape.Steps.{commit_file_now}
 use Rattle.cat_ledger_laws.specs.shape.Ties.{TouchesOnly}
 use Rattle.cat_ledger_laws.proofs.shape.Committed.{commits_keep}
 use Rattle.cat_ledger_laws.proofs.shape.Writes.{refusals_keep}
@@ -19,6 +20,7 @@ use Rattle.cat_ledger_state.specs.Commits.{HasCommitted, draft_now, names_given}
 use Rattle.cat_ledger_state.specs.Cores.{HasGivenUp, StayKnown, shape_of_core}
 use Rattle.cat_ledger_state.proofs.Counting.{given_again, known_still}
 use Rattle.cat_ledger_state.proofs.Committing.{needs_fit, leaving_fit_after, committed_is, commit_writes, commit_left}
+use Rattle.cat_ledger_state.proofs.Known.{commit_past, undone_past}
 use Rattle.cat_ledger_state.proofs.state.Core.commit.Goals as goal
 
 pub make_room-requires : goal.make_room-requires
@@ -51,11 +53,14 @@ invariant_of-self-2 g c =
     c.if-generation-gt-LAST_NUMBER.false (ap (λ d. d.commit) draft) (listed ∙ ap (λ d. d.listing) draft) c.in_ok-make_room.ensures.same kept taken
     (c.in_ok-ready.ensures.given ∙ ap names_given (sym c.self.view_is)) c.in_ok-make_room.ensures.ok gone in
     let flushed = subst (λ s. s.buffered ≡ []) (sym c.self.view_is) c.requires.flushed in
+    let past = commit_past text (shape_of_core c.self.inside) (map name_of c.names.result.now) c.self.invariant.shape
+    (subst (λ s. IsCommitFile (commit_file_now text s)) (sym c.self.view_is) c.ready.ensures.form) taken in
     record {
       shape = commits_keep text (shape_of_core c.self.inside) _ flushed committed c.self.invariant.shape;
       waits = c.self.invariant.waits;
       few = c.self.invariant.few;
       merges = c.self.invariant.merges;
+      known = undone_past _ _ _ _ _ c.self.inside.next_segment c.self.inside.next_generation c.self.inside.next_segment (c.self.inside.next_generation + 1) (omega arith) (omega arith) past c.in_ok-make_room.ensures.ok gone c.self.invariant.known;
     }
 
 pub invariant_of-self-in-Err : goal.invariant_of-self-in-Err
@@ -69,11 +74,14 @@ invariant_of-self-in-Err g c =
     let left = commit_left text (shape_of_core c.self.inside) c.conclude.new.commits.items c.conclude.new.listing (map name_of c.names.result.now)
     (commit_needs c.in_ok-ready.ready.draft.commit) c.make_room.new.refs c.conclude.new.refs c.self.invariant.shape c.if-generation-gt-LAST_NUMBER.false
     (stay ∙ c.in_ok-make_room.ensures.same) unlisted taken (ap (λ d. commit_needs d.commit) draft) c.in_ok-make_room.ensures.ok undone in
+    let past = commit_past text (shape_of_core c.self.inside) (map name_of c.names.result.now) c.self.invariant.shape
+    (subst (λ s. IsCommitFile (commit_file_now text s)) (sym c.self.view_is) c.ready.ensures.form) taken in
     record {
       shape = refusals_keep (names_begun (shape_of_core c.self.inside)) (shape_of_core c.self.inside) _ left c.self.invariant.shape;
       waits = c.self.invariant.waits;
       few = c.self.invariant.few;
       merges = c.self.invariant.merges;
+      known = undone_past _ _ _ _ _ c.self.inside.next_segment c.self.inside.next_generation c.self.inside.next_segment (c.self.inside.next_generation + 1) (omega arith) (omega arith) past c.in_ok-make_room.ensures.ok undone c.self.invariant.known;
     }
 
 pub returns-clause-ok : goal.returns-clause-ok

@@ -16,4 +16,5 @@ invariant_of-self-2 c =
       waits = ap (λ b. b.schema) c.delete-waited.ensures.removed ∙ c.self.invariant.waits;
       few = subst (λ ls. length ls ≤ segment_limit) (sym c.in_ok-delete.ensures.ok) (leaves_few (Write.delete c.args.id.now) c.self.inside.current segment_limit c.self.invariant.few);
       merges = c.self.invariant.merges;
+      known = c.self.invariant.known;
     }

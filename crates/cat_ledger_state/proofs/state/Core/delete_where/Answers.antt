@@ -17,4 +17,5 @@ invariant_of-self-2 c =
       waits = ap (λ b. b.schema) c.delete_where-2.ensures ∙ c.self.invariant.waits;
       few = subst (λ ls. length ls ≤ segment_limit) (sym c.in_ok-delete_where.ensures.ok) (leaves_few (Write.delete_where (query_of c.args.query.now)) c.self.inside.current segment_limit c.self.invariant.few);
       merges = c.self.invariant.merges;
+      known = c.self.invariant.known;
     }

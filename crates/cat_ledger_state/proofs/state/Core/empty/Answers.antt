@@ -13,8 +13,9 @@ invariant_of-result c =
     c.new-4.result.items c.new-5.result c.new-6.result c.new-3.ensures (ap (λ b. b.records) c.in_ok-buffer.ensures.ok) one c.new-4.ensures.items c.new-5.ensures
     c.new-6.ensures in
     record {
-      shape = subst IsShape (sym is) (empty_keep c.args.schema c.args.refs c.args.next_segment c.args.next_generation c.requires);
+      shape = subst IsShape (sym is) (empty_keep c.args.schema c.args.refs c.args.next_segment c.args.next_generation c.requires.counted);
       waits = ap (λ b. b.schema) c.in_ok-buffer.ensures.ok;
       few = subst (λ ls. length ls ≤ segment_limit) (sym c.new-3.ensures) (omega arith);
       merges = tt;
+      known = c.requires.known;
     }

@@ -10,4 +10,5 @@ invariant_of-self c =
       waits = c.self.invariant.waits;
       few = c.self.invariant.few;
       merges = c.self.invariant.merges;
+      known = c.self.invariant.known;
     }

@@ -1,4 +1,4 @@
-use Rattle.std.proofs.Common.{◌≤◌, ◌∙◌, [], ◌∷◌, length, Some, sym, ap, subst}
+use Rattle.std.proofs.Common.{◌≤◌, ◌∙◌, [], ◌∷◌, length, sym, ap, subst, arith}
 use Rattle.std.specs.Prelude.{option_map}
 use Rattle.cat_model.specs.Files.{Name}
 use Rattle.cat_model.specs.Limits.{segment_limit}
@@ -9,6 +9,7 @@ use Rattle.cat_ledger_state.proofs.Counting.{known_after}
 use Rattle.cat_ledger_state.specs.Installs.{HasAllPassed, HasFailed, HasInstalled}
 use Rattle.cat_ledger_state.proofs.Merging.{still_under, none_under}
 use Rattle.cat_ledger_state.proofs.Installing.{may_install, fails, fails_keep, installs, no_longer, installed_has, failed_has}
+use Rattle.cat_ledger_state.proofs.Known.{given_past, merged_past, merging_taken, taken_past}
 use Rattle.cat_ledger_state.proofs.state.Core.install.Goals as goal
 
 pub install_merged-done-requires : goal.install_merged-done-requires
@@ -30,6 +31,9 @@ invariant_of-self g c =
       waits = c.self.invariant.waits;
       few = subst (λ ls. length ls ≤ segment_limit) (sym c.in-Err.ensures.err) c.self.invariant.few;
       merges = none_under c.self.inside.schema c.take.new.self c.take.ensures.after;
+      known = c.in-Err.ensures.past c.self.inside.next_segment c.self.inside.next_generation
+          (merging_taken (shape_of_core c.self.inside) c.in-Some.merge.shape c.self.invariant.shape (ap (option_map (λ m. m.shape)) some))
+          (given_past _ _ _ _ _ c.give_source.ensures c.self.invariant.known);
     }
 
 pub returns-in-Err-clause-err : goal.returns-in-Err-clause-err
@@ -62,6 +66,10 @@ invariant_of-self-2 g c =
       few = no_longer (shape_of_core c.self.inside) c.in-Some.merge c.install_merged-done.new.current segment_limit c.self.invariant.shape making c.self.invariant.few
           c.in_default-done.ensures.ok;
       merges = none_under c.self.inside.schema c.take.new.self c.take.ensures.after;
+      known = taken_past _ _ _ _ c.self.inside.next_segment c.self.inside.next_generation c.self.inside.next_segment c.self.inside.next_generation (omega arith) (omega arith)
+          (merged_past c.self.inside.next_segment c.self.inside.next_generation c.in-Some.merge c.self.inside.current
+          (merging_taken (shape_of_core c.self.inside) c.in-Some.merge.shape c.self.invariant.shape making))
+          c.in_default-done.ensures.users (given_past _ _ _ _ _ c.give_source.ensures c.self.invariant.known);
     }
 
 pub returns-clause-ok : goal.returns-clause-ok

@@ -9,4 +9,5 @@ invariant_of-self c = record {
   waits = c.self.invariant.waits;
   few = c.self.invariant.few;
   merges = c.self.invariant.merges;
+  known = c.self.invariant.known;
 }

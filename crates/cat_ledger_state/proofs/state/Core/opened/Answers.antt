@@ -1,4 +1,4 @@
-use Rattle.std.proofs.Common.{◌∙◌, ◌≤◌, length, sym, ap, ap₂, subst}
+use Rattle.std.proofs.Common.{◌∙◌, ◌≤◌, length, sym, ap, ap₂, subst, arith}
 use Rattle.std.specs.Prelude.{All}
 use Rattle.cat_model.specs.CommitFile.{commit_needs}
 use Rattle.cat_model.specs.Limits.{segment_limit}
@@ -8,6 +8,7 @@ use Rattle.cat_ledger_laws.specs.shape.OpeningLaws.{IsCountedAt, MayHold, listed
 use Rattle.cat_ledger_laws.specs.shape.Shapes.{IsShape}
 use Rattle.cat_ledger_laws.proofs.shape.Opened.{opened_keep}
 use Rattle.cat_ledger_state.proofs.Restoring.{restored_fits, counted_is, leaves_few, opened_is}
+use Rattle.cat_ledger_state.proofs.Known.{known_stays}
 use Rattle.cat_ledger_state.proofs.state.Core.opened.Goals as goal
 
 pub count_users-requires : goal.count_users-requires
@@ -43,12 +44,17 @@ returns-clause-opened c =
 pub invariant_of-result : goal.invariant_of-result
 invariant_of-result c =
     let leaves = c.in_ok-current.ensures.ok ∙ ap (λ (r : Restored). r.leaves) c.restored.view_is in
+    let kept = opened_keep c.requires.restored.0 c.args.schema c.requires.restored.1 c.args.restored c.count_users.new.refs c.args.next_segment c.args.next_generation
+    c.requires.restored.2 (returns-clause-counted c) in
+    let same_segment : c.args.next_segment ≤ c.args.next_segment = omega arith in
+    let same_generation : c.args.next_generation ≤ c.args.next_generation = omega arith in
     record {
-      shape = subst IsShape (sym (returns-clause-opened c))
-          (opened_keep c.requires.restored.0 c.args.schema c.requires.restored.1 c.args.restored c.count_users.new.refs c.args.next_segment c.args.next_generation
-          c.requires.restored.2 (returns-clause-counted c));
+      shape = subst IsShape (sym (returns-clause-opened c)) kept;
       waits = ap (λ b. b.schema) c.in_ok-buffer.ensures.ok;
       few = subst (λ ls. length ls ≤ segment_limit) (sym leaves)
           (leaves_few (MayHold c.requires.restored.0) c.args.schema c.requires.restored.1 c.args.restored c.requires.restored.2);
       merges = tt;
+      known = known_stays c.args.refs c.args.next_segment c.args.next_generation
+          (opened_at c.args.schema c.args.restored c.count_users.new.refs c.args.next_segment c.args.next_generation) kept same_segment same_generation
+          c.in_ok-count_users.ensures.used c.requires.known;
     }

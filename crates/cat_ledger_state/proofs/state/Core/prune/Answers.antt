@@ -6,6 +6,7 @@ use Rattle.cat_ledger_laws.proofs.shape.Views.{prunes_keep}
 use Rattle.cat_lifetimes.specs.records.Records.{stays_in}
 use Rattle.cat_ledger_state.specs.Cores.{shape_of_core}
 use Rattle.cat_ledger_state.proofs.Viewing.{gone_fit, prune_is}
+use Rattle.cat_ledger_state.proofs.Known.{given_past}
 use Rattle.cat_ledger_state.proofs.state.Core.prune.Goals as goal
 
 pub give-requires : goal.give-requires
@@ -21,6 +22,7 @@ invariant_of-self c =
       waits = c.self.invariant.waits;
       few = c.self.invariant.few;
       merges = c.self.invariant.merges;
+      known = given_past _ _ _ _ _ c.give.ensures c.self.invariant.known;
     }
 
 pub returns-clause-ok : goal.returns-clause-ok

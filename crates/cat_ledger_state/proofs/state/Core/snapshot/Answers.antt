@@ -13,6 +13,7 @@ invariant_of-self c =
       waits = c.self.invariant.waits;
       few = c.self.invariant.few;
       merges = c.self.invariant.merges;
+      known = c.self.invariant.known;
     }
 
 pub returns-clause-ok : goal.returns-clause-ok

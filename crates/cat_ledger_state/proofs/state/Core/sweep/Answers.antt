@@ -11,6 +11,7 @@ invariant_of-self g c = record {
   waits = c.self.invariant.waits;
   few = c.self.invariant.few;
   merges = c.self.invariant.merges;
+  known = λ q there. c.self.invariant.known q (c.sweep.ensures.known q there);
 }
 
 pub returns-clause-leaves : goal.returns-clause-leaves

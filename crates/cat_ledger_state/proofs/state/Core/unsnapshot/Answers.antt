@@ -8,6 +8,7 @@ use Rattle.cat_ledger_state.specs.Commits.{stays_with}
 use Rattle.cat_ledger_state.specs.Cores.{shape_of_core}
 use Rattle.cat_ledger_state.proofs.Committing.{leaving_fit}
 use Rattle.cat_ledger_state.proofs.Releasing.{unsnapped_is}
+use Rattle.cat_ledger_state.proofs.Known.{given_past}
 use Rattle.cat_ledger_state.proofs.state.Core.unsnapshot.Goals as goal
 
 pub give-requires : goal.give-requires
@@ -31,6 +32,7 @@ invariant_of-self-2 c =
       waits = c.self.invariant.waits;
       few = c.self.invariant.few;
       merges = c.self.invariant.merges;
+      known = given_past _ _ _ _ _ c.give.ensures c.self.invariant.known;
     }
 
 pub returns-clause-ok : goal.returns-clause-ok
