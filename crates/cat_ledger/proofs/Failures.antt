@@ -2,8 +2,8 @@
 use Rattle.std.proofs.Common.{◌≡◌, ◌⊎◌, ℕ, ◌≤◌, Result, Ok, Err, arith, inl, inr, refl, subst}
 use Rattle.std.specs.Prelude.{◌≢◌, IfErr}
 use Rattle.cat_base.specs.declared.refusal.Refusal.{Refusal}
-use Rattle.cat_base.specs.declared.refusal.Refusal.TheVariants.{Damaged, Device, Memory}
-use Rattle.cat_directory.specs.Devices.{CountsReading, ReadingCount, WritingCount}
+use Rattle.cat_base.specs.declared.refusal.Refusal.TheVariants.{Damaged, Device, Kind, Memory, Spent}
+use Rattle.cat_directory.specs.Devices.{CountsReading, CountsWriting, ReadingCount, WritingCount}
 use Rattle.cat_directory.specs.Frames.{CountsFailures, FailsWriting}
 
 -- want of memory is no failure
@@ -16,6 +16,36 @@ reading_rises old new Memory same = omega (arith, same)
 reading_rises old new Damaged same = omega (arith, same)
 reading_rises old new Device one = omega (arith, one)
 reading_rises old new _ never = absurd never
+
+-- what a flush is refused for is no fault of an item
+pub none_is_kind : (e : Refusal) → (e ≡ Memory) ⊎ (e ≡ Device) ⊎ (e ≡ Spent) → e ≢ Kind
+none_is_kind e is kind = elim is [
+  | inl memory ↦ cc
+  | inr (inl device) ↦ cc
+  | inr (inr spent) ↦ cc
+]
+
+-- what a merge in the making is refused for is no want of numbers
+pub none_is_spent : (e : Refusal) → (e ≡ Memory) ⊎ (e ≡ Device) ⊎ (e ≡ Damaged) → e ≢ Spent
+none_is_spent e is spent = elim is [
+  | inl memory ↦ cc
+  | inr (inl device) ↦ cc
+  | inr (inr damaged) ↦ cc
+]
+
+-- what reading is refused for
+pub reading_refusals : (old new : ℕ) (e : Refusal) → ReadingCount old new e → (e ≡ Memory) ⊎ (e ≡ Device) ⊎ (e ≡ Damaged)
+reading_refusals old new Memory same = inl refl
+reading_refusals old new Damaged same = inr (inr refl)
+reading_refusals old new Device one = inr (inl refl)
+reading_refusals old new _ never = absurd never
+
+-- what writing is refused for
+pub writing_refusals : {X : Type 0} (old new : ℕ) (r : Result X Refusal) → CountsWriting old new r → IfErr r (λ e. (e ≡ Memory) ⊎ (e ≡ Device))
+writing_refusals old new (Ok x) same = tt
+writing_refusals old new (Err Memory) same = inl refl
+writing_refusals old new (Err Device) one = inr refl
+writing_refusals old new (Err _) never = absurd never
 
 module _ {S : Type 0} {can_fail : S → Type 0} {faults : S → ℕ} where
   -- one that counts nothing, and isn't refused for a failure

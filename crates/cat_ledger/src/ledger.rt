@@ -2,7 +2,7 @@
 ghost use Rattle.cat_ledger.specs.Histories.{FoundIsTaken, FoundIsTried, NewestIsAnswered, NewestIsFound, NoneIsLost};
 ghost use Rattle.cat_ledger.specs.Lasting.{AlwaysTells, IsCarried, NewestLasts};
 ghost use Rattle.cat_ledger.specs.Ledgers.{device_in, policy_in, shape_in};
-ghost use Rattle.std.specs.Prelude.{◌≡◌};
+ghost use Rattle.std.specs.Prelude.{◌≡◌, ◌+◌, ◌*◌, ◌≤◌, ◌==◌, count_by};
 
 use crate::upkeep::MergePolicy;
 use cat_base::WriteNo;
@@ -86,16 +86,18 @@ impl<D: Directory + Shelf> Ledger<D> {
     /// What always holds of it, for a caller's proof; it does nothing. Its device and its memory stand for a ledger of the
     /// model. And a crash at this moment leaves each file that the newest commit needs byte for byte as the directory tells of
     /// it, where such directories always tell of their files: the newest commit is the last one that was answered, or else
-    /// the one that was opened.
+    /// the one that was opened. Few files are pending: no more than there are names below the next numbers.
     ///
     /// Lucene's `IndexWriter.commit`, whose javadoc promises that its changes survive a crash.
     pub fn newest_lasts(&self)
         ensures carried { IsCarried (D.bytes (device_in self.now)) (shape_in self.now) }
         ensures lasts { AlwaysTells D.bytes
             → NewestLasts (D.bytes (device_in self.now)) (D.may_leave (device_in self.now)) (shape_in self.now) }
+        ensures few { count_by (λ u. u.users == 0) (shape_in self.now).users + 2
+            ≤ (shape_in self.now).next_segment * ((shape_in self.now).next_generation + 1) }
     {
         // A look at a field tells what holds of all of them.
-        let _core = &self.core;
+        self.core.few_are_pending();
     }
 
     /// What calls in a row leave of commits, for a caller's proof; it does nothing. Whatever calls led here, each of which says what it

@@ -24,3 +24,6 @@ returns-clause-none g c = rw (← c.self.view_is) (
     none_found c.view_at.result (has_hold c.self.inside.core.holds c.args.session c.args.token) (sym c.is_held_by.ensures ∙ c.if-not-is_held_by.false)
     (unheld_where_none (g.D.Holder.bytes c.self.inside.device) c.self.inside.core c.self.invariant.carried c.args.session c.args.token (λ v. v.now)
     c.view_at.result c.view_at.ensures))
+
+pub returns-then-not-is_held_by-clause-some : goal.returns-then-not-is_held_by-clause-some
+returns-then-not-is_held_by-clause-some g c = tt

@@ -19,3 +19,6 @@ returns-clause-goes g c =
     rw (← c.self.view_is) (goes_so g.D.Holder.bytes g.D.Holder.may_leave (memory_goes g.D.Holder.bytes g.D.Holder.may_leave c.self.inside.device c.self.inside.core c.let_go-had.new.self c.self.inside.policy c.self.inside.policy
     (ap (λ (x : Shape). newest_generation x.commits) c.let_go-had.ensures.released) (ap (λ (x : Shape). x.next_generation) c.let_go-had.ensures.released)
     (ap (λ (x : Shape). x.next_segment) c.let_go-had.ensures.released) (ap (λ (x : Shape). x.merging) c.let_go-had.ensures.released)))
+
+pub returns-clause-held : goal.returns-clause-held
+returns-clause-held g c = λ _. rw (← c.self.view_is) c.let_go-had.ensures.released

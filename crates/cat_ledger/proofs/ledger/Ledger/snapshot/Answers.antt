@@ -1,7 +1,9 @@
-use Rattle.std.proofs.Common.{refl, ap}
+use Rattle.std.proofs.Common.{refl, ap, subst, sym}
 use Rattle.cat_model.specs.Run.{Command}
 use Rattle.cat_ledger_laws.proofs.lines.LineAnswers.{snaps_answer}
 use Rattle.cat_ledger.proofs.Results.{passed_on}
+use Rattle.cat_ledger_state.proofs.Results.{either_err}
+use Rattle.cat_ledger.specs.Lasting.{IsLasting}
 use Rattle.cat_ledger.proofs.Answered.{snap_refused}
 use Rattle.cat_ledger.proofs.Lasting.{memory_keeps, same_needs}
 use Rattle.cat_ledger_laws.specs.model.Calls.{Snaps}
@@ -10,6 +12,20 @@ use Rattle.cat_ledger.proofs.Histories.{goes_so, memory_goes}
 use Rattle.cat_ledger_laws.specs.shape.Shapes.{Shape}
 use Rattle.cat_ledger_laws.specs.shape.Steps.{newest_generation}
 use Rattle.cat_ledger.proofs.ledger.Ledger.snapshot.Goals as goal
+
+-- a refusal changes nothing
+
+pub invariant_of-self : goal.invariant_of-self
+invariant_of-self g c =
+    subst (λ (s : Shape). IsLasting g.D.Holder.bytes g.D.Holder.may_leave c.self.inside.device s) (sym c.in_err-generation.ensures.err) c.self.invariant
+
+pub returns-in_err-generation-clause-err : goal.returns-in_err-generation-clause-err
+returns-in_err-generation-clause-err g c =
+    rw (← c.self.view_is) (either_err c.from_residual.result (λ i. record {
+      device = c.self.inside.device;
+      core = c.in_err-generation.ensures.err i;
+      policy = c.self.inside.policy;
+    }))
 
 pub invariant_of-self-2 : goal.invariant_of-self-2
 invariant_of-self-2 g c =

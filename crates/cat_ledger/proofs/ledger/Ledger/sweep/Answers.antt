@@ -1,6 +1,7 @@
 use Rattle.std.proofs.Common.{[], ap}
-use Rattle.cat_ledger.proofs.Failures.{writing_fails}
+use Rattle.cat_ledger.proofs.Failures.{writing_fails, writing_refusals}
 use Rattle.cat_ledger.proofs.Lasting.{sweep_keeps}
+use Rattle.cat_ledger.proofs.Results.{if_ok}
 use Rattle.cat_ledger_laws.proofs.shape.Writes.{sweeps_make}
 use Rattle.cat_ledger.proofs.Histories.{goes_so, gone_goes}
 use Rattle.cat_ledger_laws.proofs.model.Taking.{takes_sweep}
@@ -30,3 +31,30 @@ returns-clause-goes g c =
 
 pub returns-clause-making : goal.returns-clause-making
 returns-clause-making g c = rw (← c.self.view_is) (ap (λ (s : Shape). s.merging) c.sweep.ensures.leaves.rest)
+
+pub returns-clause-files : goal.returns-clause-files
+returns-clause-files g c = rw (← c.self.view_is) c.sweep.ensures.files
+
+pub returns-clause-none : goal.returns-clause-none
+returns-clause-none g c = if_ok _ _ c.sweep.result (λ n left. left.1) c.sweep.ensures.ok
+
+pub returns-clause-count : goal.returns-clause-count
+returns-clause-count g c = rw (← c.self.view_is) (if_ok _ _ c.sweep.result (λ n left. left.0) c.sweep.ensures.ok)
+
+pub returns-clause-done : goal.returns-clause-done
+returns-clause-done g c = c.sweep.ensures.done
+
+pub returns-clause-memory : goal.returns-clause-memory
+returns-clause-memory g c = rw (← c.self.view_is) c.sweep.ensures.memory
+
+pub returns-clause-stays : goal.returns-clause-stays
+returns-clause-stays g c = c.sweep.ensures.stays
+
+pub returns-clause-used : goal.returns-clause-used
+returns-clause-used g c = rw (← c.self.view_is) c.sweep.ensures.used
+
+pub returns-clause-crash : goal.returns-clause-crash
+returns-clause-crash g c = rw (← c.self.view_is) c.sweep.ensures.crash
+
+pub returns-clause-refusal : goal.returns-clause-refusal
+returns-clause-refusal g c = writing_refusals _ _ c.sweep.result c.sweep.ensures.fails.counted

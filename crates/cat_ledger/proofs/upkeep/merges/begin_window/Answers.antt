@@ -20,3 +20,9 @@ returns-in-Err-clause-err g c = left_as_it_was (g.D.Holder.bytes c.args.device.n
 
 pub returns-in-Err-clause-segments : goal.returns-in-Err-clause-segments
 returns-in-Err-clause-segments g c = nothing_flushed c.args.core.now
+
+pub returns-in-Err-clause-crash : goal.returns-in-Err-clause-crash
+returns-in-Err-clause-crash g c = λ q old e might. might
+
+pub returns-in-Err-clause-commits : goal.returns-in-Err-clause-commits
+returns-in-Err-clause-commits g c = λ n e might. might

@@ -1,7 +1,7 @@
 use Rattle.std.proofs.Common.{Err, Ok, sym, ◌∙◌}
 use Rattle.cat_ledger.proofs.upkeep.Made.{left_ended, copied_made}
 use Rattle.cat_ledger.proofs.upkeep.Spared.{copied_spares}
-use Rattle.cat_ledger.proofs.Failures.{either, reading_fails}
+use Rattle.cat_ledger.proofs.Failures.{either, reading_fails, reading_refusals}
 use Rattle.cat_ledger.proofs.Refused.{ended_segments}
 use Rattle.cat_ledger.proofs.upkeep.merges.copy.Goals as goal
 
@@ -31,3 +31,15 @@ returns-clause-commits g c =
 pub returns-in-Err-clause-segments : goal.returns-in-Err-clause-segments
 returns-in-Err-clause-segments g c =
     ended_segments (g.D.Holder.bytes c.args.device.now) (g.D.Holder.bytes c.copy_rows.new.device) c.args.core.now c.copy_rows.new.self c.in-Err.ensures.err
+
+pub returns-in-Err-clause-lacking : goal.returns-in-Err-clause-lacking
+returns-in-Err-clause-lacking g c = c.in-Err.ensures.lacking
+
+pub returns-in-Err-clause-short : goal.returns-in-Err-clause-short
+returns-in-Err-clause-short g c = c.in-Err.ensures.short
+
+pub returns-in-Err-clause-reach : goal.returns-in-Err-clause-reach
+returns-in-Err-clause-reach g c = c.in-Err.ensures.due
+
+pub returns-in-Err-clause-refusal : goal.returns-in-Err-clause-refusal
+returns-in-Err-clause-refusal g c = reading_refusals _ _ c.in-Err.refusal c.in-Err.ensures.counted
