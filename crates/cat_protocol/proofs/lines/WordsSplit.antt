@@ -1,10 +1,11 @@
 -- Texts split at their first space, and the numbers, sorts and marks before it.
-use Rattle.std.proofs.Common.{◌≡◌, ◌≢◌, ℕ, zero, suc, ◌<◌, ◌^◌, List, [], ◌∷◌, ◌++◌, length, codes, leb, refl, sym, arith}
+use Rattle.std.proofs.Common.{◌≡◌, ◌≢◌, ℕ, zero, suc, ◌<◌, ◌^◌, List, [], ◌∷◌, ◌++◌, length, codes, get_or, leb, refl, sym, ap, ◌∙◌, true≢false, arith}
 use Rattle.std.proofs.lemmas.Bool.{and_parts}
 use Rattle.std.proofs.lemmas.Bool.Decides.{nat_tests}
 use Rattle.std.specs.List.{list_all}
+use Rattle.std.specs.Bool.{then_some}
 use Rattle.std.specs.Char.{is_ascii_lowercase}
-use Rattle.std.specs.Prelude.{Option, Some, None, IfSome, IfNone, Bool, true, nat_lt, ◌&&◌}
+use Rattle.std.specs.Prelude.{Option, Some, None, IfSome, IfNone, Bool, true, false, nat_lt, ◌&&◌}
 use denote.Ref.{Bor}
 use Rattle.std.specs.Fmt.{decimal}
 use Rattle.std.proofs.lemmas.Fmt.{decimal_is_IsNumeral, decimal_injective}
@@ -118,3 +119,29 @@ no_sort word dot plus minus (Sort.falling name) form e = minus name e
 -- a text begins with one name
 pub one_name : (found name rest left : Text) → has_name_form found ≡ true → has_name_form name ≡ true → found ++ 32 ∷ rest ≡ name ++ 32 ∷ left → (found ≡ name) × (rest ≡ left)
 one_name found name rest left h k e = one_split found name rest left (name_no_space found h) (name_no_space name k) e
+
+-- what is answered where a test holds, and else none
+pub formed_some : {A : Type 0} (P : A → Type 0) (r : Option A) (formed : Bool) (x : A) → r ≡ then_some formed x → (formed ≡ true → P x) → IfSome r P
+formed_some P r true x is so = rw is (so refl)
+formed_some P r false x is so = rw is tt
+
+pub formed_or_none : {A : Type 0} (Q : Type 0) (r : Option A) (formed : Bool) (x : A) → r ≡ then_some formed x → (formed ≡ false → Q) → IfNone r Q
+formed_or_none Q r true x is so = rw is tt
+formed_or_none Q r false x is so = rw is (so refl)
+
+-- a sign and a name without the form of one spell no sort
+pub unformed_rising : (word name : Text) → word ≡ 43 ∷ name → has_name_form name ≡ false → (sort : Sort) → IsSort sort → word ≡ sort_text sort → ⊥
+unformed_rising word name is unlike Sort.added form e = absurd (omega (arith, ap (λ t. get_or t 0 0) (sym is ∙ e)))
+unformed_rising word name is unlike (Sort.rising n) form e =
+    let both : 43 ∷ name ≡ 43 ∷ n = sym is ∙ e in
+    let same : name ≡ n = cc in
+    true≢false (sym form ∙ ap has_name_form (sym same) ∙ unlike)
+unformed_rising word name is unlike (Sort.falling n) form e = absurd (omega (arith, ap (λ t. get_or t 0 0) (sym is ∙ e)))
+
+pub unformed_falling : (word name : Text) → word ≡ 45 ∷ name → has_name_form name ≡ false → (sort : Sort) → IsSort sort → word ≡ sort_text sort → ⊥
+unformed_falling word name is unlike Sort.added form e = absurd (omega (arith, ap (λ t. get_or t 0 0) (sym is ∙ e)))
+unformed_falling word name is unlike (Sort.rising n) form e = absurd (omega (arith, ap (λ t. get_or t 0 0) (sym is ∙ e)))
+unformed_falling word name is unlike (Sort.falling n) form e =
+    let both : 45 ∷ name ≡ 45 ∷ n = sym is ∙ e in
+    let same : name ≡ n = cc in
+    true≢false (sym form ∙ ap has_name_form (sym same) ∙ unlike)

@@ -1,6 +1,6 @@
 -- What a call of the writer left, by how many bytes it took.
-use Rattle.std.proofs.Common.{ℕ, zero, suc, ◌≤◌, [], length, take, sym, append-nil, ◌∙◌, arith}
-use Rattle.std.specs.Prelude.{Option, None, Some, Result, Ok, Err, IfOk, OnErr}
+use Rattle.std.proofs.Common.{◌≡◌, ℕ, zero, suc, ◌≤◌, [], length, take, refl, sym, append-nil, ◌∙◌, arith}
+use Rattle.std.specs.Prelude.{◌≢◌, Option, None, Some, Result, Ok, Err, IfOk, OnErr}
 use Rattle.std.specs.declared.io.Error.{Error}
 use Rattle.std.specs.declared.io.ErrorKind.{ErrorKind}
 use Rattle.std.specs.declared.io.ErrorKind.TheVariants.{Interrupted}
@@ -9,7 +9,7 @@ use Rattle.std.specs.Io.KnownBytes.{Appends, Keeps, WriteAppends}
 use Rattle.std.specs.IoError.{error_kind}
 use Rattle.cat_model.specs.Text.{Text}
 use Rattle.cat_protocol.specs.declared.sending.pieces.WriteFault.{WriteFault}
-use Rattle.cat_protocol.specs.sending.Out.{taken_at, taken_by}
+use Rattle.cat_protocol.specs.sending.Out.{taken_at, taken_by, write_fault}
 
 none_appended : (a b : Option Text) → Appends a b [] → Keeps a b
 none_appended None b h = h
@@ -36,3 +36,8 @@ pub takes_so : (a b : Option Text) (bytes : Text) (answer : Result ℕ Error) �
 takes_so a b bytes (Ok zero) fits wrote = record { bound = tt; ok = tt; err = none_appended a b wrote }
 takes_so a b bytes (Ok (suc n)) fits wrote = record { bound = fits; ok = wrote; err = tt }
 takes_so a b bytes (Err e) fits wrote = takes_at a b bytes (error_kind e) wrote
+
+-- what fails for no signal is a fault
+pub taken_at_fault : (kind : ErrorKind) → kind ≢ Interrupted → ◌≡◌ {A = Result ℕ WriteFault} (Err write_fault) (taken_at kind)
+taken_at_fault Interrupted other = absurd (other refl)
+taken_at_fault kind other = refl

@@ -160,3 +160,23 @@ refused_first_in_pieces e = refl
 pub no_query_in_pieces : (e : Refusal) (number place : ℕ) → e ≡ Query place → number ≡ number_of e
     → line_text (refusal_words e) ≡ (decimal number ++ codes " ") ++ (decimal place ++ codes "\n")
 no_query_in_pieces e number place is n = rw (n, is) (simp append_assoc)
+
+-- ---- what is refused, by pieces whose texts are told by equations: so a piece that is another is told from it by that equation, before
+-- any text is computed
+
+pub refused_sent : {T E : Type 0} (a b c : Option Text) (r : Result T E) (e : Refusal) (first : Text) → Appends a b first → Sent b c r (line_text (refusal_words e))
+    → first ≡ codes "NO " → Sent a c r (refused_text e)
+refused_sent a b c r e first before more is =
+    rw (refused_first_in_pieces e) (sent_behind a b c r (codes "NO ") (line_text (refusal_words e)) (subst (λ l. Appends a b l) is before) more)
+
+pub refused_cut : {T E : Type 0} (a b : Option Text) (r : Result T E) (e : Refusal) (first : Text) → AppendsFront a b first → IsErr r → first ≡ codes "NO "
+    → Sent a b r (refused_text e)
+refused_cut a b r e first part fails is =
+    rw (refused_first_in_pieces e) (sent_at_fault r fails (front_before (line_text (refusal_words e)) (front_as is part)))
+
+pub query_sent : {T E : Type 0} (a b c : Option Text) (r : Result T E) (e : Refusal) (place number behind : ℕ) → e ≡ Query place
+    → Appends a b (decimal number ++ codes " ") → Sent b c r (decimal behind ++ codes "\n") → number ≡ number_of e → behind ≡ place
+    → Sent a c r (line_text (refusal_words e))
+query_sent a b c r e place number behind is before more n p =
+    rw (no_query_in_pieces e number place is n)
+    (sent_behind a b c r (decimal number ++ codes " ") (decimal place ++ codes "\n") before (subst (λ k. Sent b c r (decimal k ++ codes "\n")) p more))

@@ -1,6 +1,6 @@
 -- What a call of the reader left, by what it brought.
-use Rattle.std.proofs.Common.{ℕ, zero, suc, ◌<◌, [], length, refl, sym}
-use Rattle.std.specs.Prelude.{Option, None, Some, Result, Ok, Err}
+use Rattle.std.proofs.Common.{◌≡◌, ℕ, zero, suc, ◌<◌, [], length, refl, sym}
+use Rattle.std.specs.Prelude.{◌≢◌, Option, None, Some, Result, Ok, Err}
 use Rattle.std.specs.declared.io.Error.{Error}
 use Rattle.std.specs.declared.io.ErrorKind.{ErrorKind}
 use Rattle.std.specs.declared.io.ErrorKind.TheVariants.{Interrupted}
@@ -8,6 +8,8 @@ use Rattle.std.specs.Io.{ReadsAtMost}
 use Rattle.std.specs.Io.KnownBytes.{Consumes, Keeps, ReadConsumes}
 use Rattle.std.specs.IoError.{error_kind}
 use Rattle.cat_model.specs.Text.{Text}
+use Rattle.cat_protocol.specs.declared.serving.serving.Came.{Came}
+use Rattle.cat_protocol.specs.declared.serving.serving.Came.TheVariants as came
 use Rattle.cat_protocol.specs.serving.Serving.{Comes, came_at, came_by}
 
 none_consumed : (a b : Option Text) → Consumes a b [] → Keeps a b
@@ -24,3 +26,8 @@ pub comes_so : (a b : Option Text) (chunk : Text) (answer : Result ℕ Error) �
 comes_so a b chunk (Ok zero) some fits read = (none_consumed a b read.0, read.1 refl some)
 comes_so a b chunk (Ok (suc n)) some fits read = (read.0, fits.0)
 comes_so a b chunk (Err e) some fits read = kept_at a b chunk (error_kind e) read
+
+-- what fails for no signal is a fault
+pub came_at_fault : (kind : ErrorKind) → kind ≢ Interrupted → ◌≡◌ {A = Came} came.Fault (came_at kind)
+came_at_fault Interrupted other = absurd (other refl)
+came_at_fault kind other = refl

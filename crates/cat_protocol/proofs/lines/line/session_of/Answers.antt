@@ -10,3 +10,6 @@ returns-in_default-clause-none c = (
       let same = decimal_injective c.in-Some.session session (omega (arith, found.0)) (omega arith) (sym found.1 ∙ e) in
       omega (arith, same, c.if-session.false),
 )
+
+pub returns-in-Some-clause-found : goal.returns-in-Some-clause-found
+returns-in-Some-clause-found c = (omega (arith, c.if-session.true), c.in-Some.ensures.found.1)

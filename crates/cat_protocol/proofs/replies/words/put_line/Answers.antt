@@ -1,22 +1,15 @@
-use Rattle.std.proofs.Common.{◌++◌, codes}
-use Rattle.std.specs.List.{flat_map}
-use Rattle.cat_protocol.proofs.sending.Written.{gathered_at_fault, gathered_before, gathered_front, gathered_behind}
-use Rattle.cat_protocol.specs.replies.Words.{behind_space}
-use Rattle.cat_protocol.proofs.replies.Pieces.{line_in_pieces}
+use Rattle.std.proofs.Common.{refl}
+use Rattle.cat_protocol.proofs.replies.Pieces.{line_cut, line_cut_behind, line_taken}
 use Rattle.cat_protocol.proofs.replies.words.put_line.Goals as goal
 
 pub returns-in_err-put_number : goal.returns-in_err-put_number
-returns-in_err-put_number g c =
-    rw (line_in_pieces c.args.session c.args.words.now)
-    (gathered_at_fault _ _ _ _ c.from_residual.ensures.0 (gathered_before _ _ (flat_map behind_space c.args.words.now ++ codes "\n") c.in_err-put_number.ensures))
+returns-in_err-put_number g c = line_cut c.args.session c.args.words.now _ _ _ _ c.from_residual.result _ c.in_err-put_number.ensures c.from_residual.ensures.0 refl
 
 pub returns-in_err-put_words : goal.returns-in_err-put_words
 returns-in_err-put_words g c =
-    rw (line_in_pieces c.args.session c.args.words.now)
-    (gathered_at_fault _ _ _ _ c.from_residual-in_err-put_words.ensures.0
-    (gathered_front _ _ _ _ _ _ _ c.in_ok-put_number.ensures (gathered_before _ _ (codes "\n") c.in_err-put_words.ensures)))
+    line_cut_behind c.args.session c.args.words.now _ _ _ _ _ _ c.from_residual-in_err-put_words.result _ c.in_ok-put_number.ensures c.in_err-put_words.ensures
+    c.from_residual-in_err-put_words.ensures.0 refl
 
 pub returns : goal.returns
 returns g c =
-    rw (line_in_pieces c.args.session c.args.words.now)
-    (gathered_behind _ _ _ _ _ _ _ _ _ c.in_ok-put_number.ensures (gathered_behind _ _ _ _ _ _ _ _ (codes "\n") c.in_ok-put_words.ensures c.put.ensures))
+    line_taken c.args.session c.args.words.now _ _ _ _ _ _ _ _ c.put.result _ _ c.in_ok-put_number.ensures c.in_ok-put_words.ensures c.put.ensures refl refl

@@ -1,4 +1,5 @@
-use Rattle.cat_protocol.proofs.sending.Written.{front_before, sent_behind, sent_at_fault, no_query_in_pieces}
+use Rattle.std.proofs.Common.{refl}
+use Rattle.cat_protocol.proofs.sending.Written.{front_before, sent_at_fault, no_query_in_pieces, query_sent}
 use Rattle.cat_protocol.proofs.sending.lines.send_reason.Goals as goal
 
 pub returns-in_err-send_number-in-Query : goal.returns-in_err-send_number-in-Query
@@ -8,5 +9,4 @@ returns-in_err-send_number-in-Query g c =
 
 pub returns-in_ok-send_number-in-Query : goal.returns-in_ok-send_number-in-Query
 returns-in_ok-send_number-in-Query g c =
-    rw (no_query_in_pieces c.args.refusal c.number-number.result c.in-Query.place c.in-Query.is c.number-number.ensures)
-    (sent_behind _ _ _ _ _ _ c.in_ok-send_number-in-Query.ensures c.send_number-in-Query.ensures)
+    query_sent _ _ _ c.send_number-in-Query.result c.args.refusal c.in-Query.place _ _ c.in-Query.is c.in_ok-send_number-in-Query.ensures c.send_number-in-Query.ensures c.number-number.ensures refl

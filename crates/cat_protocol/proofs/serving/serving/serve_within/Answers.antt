@@ -1,5 +1,5 @@
-use Rattle.std.proofs.Common.{◌++◌, take, ap, ◌∙◌}
-use Rattle.std.proofs.KnownBytes.{Consumes-trans, Consumes-kept}
+use Rattle.std.proofs.Common.{[], ◌++◌, length, take, ap, refl, ◌∙◌, arith}
+use Rattle.std.proofs.KnownBytes.{Appends-nil, Consumes-nil, Consumes-trans, Consumes-kept}
 use Rattle.cat_model.specs.Input.{ended_lines, lines_of, HaveCome}
 use Rattle.cat_protocol.specs.serving.Serving.{Says}
 use Rattle.cat_protocol.proofs.serving.Cuts.{ended_on, rest_on}
@@ -87,3 +87,20 @@ returns g c =
     let left = g.R.Read.remaining c.reads.reader in
     let so = c.reads.invariant in
     ends_unread m.opens m.step m.token c.args.seed input left so.bytes so.read so.served
+
+pub reads-init : goal.reads-init
+reads-init g c = record {
+  ready = tt;
+  room = c.requires.room;
+  short = omega (arith, ap length c.requires.empty);
+  bytes = [];
+  read = Consumes-nil _;
+  served = record { ends = ([], (refl, refl), Appends-nil _) };
+  gathered = ap (take 10002) c.requires.empty;
+}
+
+pub read_some-requires : goal.read_some-requires
+read_some-requires g c = omega (arith, c.reads.auto.chunk, c.requires.some)
+
+pub slice_bounds-feed-end : goal.slice_bounds-feed-end
+slice_bounds-feed-end g c = c.in-Bytes.ensures.1
