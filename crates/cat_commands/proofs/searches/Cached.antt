@@ -1,6 +1,7 @@
 -- What is said of the view that is held, and what a read makes of the sets and the notes.
 use Rattle.std.proofs.Common.{◌≡◌, ◌∙◌, Option, Some, None, refl, sym, ap, subst, inr}
-use Rattle.std.specs.Prelude.{IfOk, IfSome, MatchOption, Ok, Result}
+use Rattle.std.specs.Prelude.{Err, IfOk, IfSome, MatchOption, Ok, OnErr, OnOk, Result}
+use Rattle.std.specs.Result.{IsErr}
 use Rattle.cat_model.specs.Item.{Schema}
 use Rattle.cat_model.specs.Query.{Query}
 use Rattle.cat_model.specs.Text.{Text}
@@ -43,3 +44,16 @@ unchanged view schema text f held = by_any (f ≡ f) (λ h. UsesSpelled schema t
 pub prepared_is : {E : Type 0} (r : Result Prepared E) (p : Prepared) → r ≡ Ok p → (view : View) (query : code.Query)
     → IfOk r (λ p. p ≡ record { view = view; query = query }) → p ≡ record { view = view; query = query }
 prepared_is r p is view query made = subst (λ r. IfOk r (λ p. p ≡ record { view = view; query = query })) is made
+
+-- what a fault gives
+pub no_ok : {X E : Type 0} (P : X → Type 0) (r : Result X E) → IsErr r → IfOk r P
+no_ok P (Ok x) is = cc
+no_ok P (Err e) is = tt
+
+pub none_ok : {X E : Type 0} (A : Type 0) (r : Result X E) → IsErr r → OnOk r A
+none_ok A (Ok x) is = cc
+none_ok A (Err e) is = tt
+
+pub at_err : {X E : Type 0} (A : Type 0) (r : Result X E) → A → OnErr r A
+at_err A (Ok x) so = tt
+at_err A (Err e) so = so

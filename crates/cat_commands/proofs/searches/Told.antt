@@ -83,3 +83,11 @@ due_passed view asked e one other is is' due rs shows = passed (answer view.sche
     passed : (r : Result Found Refusal) → IfErr r (λ d. one ≡ Err d) → IfErr r (λ d. other ≡ Err d)
     passed (Ok found) u = tt
     passed (Err d) given = is' ∙ ap Err (err_is (sym is ∙ given))
+
+-- a read that was judged to be due no refusal gives it, whatever it is told
+pub due_done : {X Y : Type 0} (view : View) (asked : Read) (w : X) (given : Result Y Refusal) → GivesDue view asked (Ok w) → GivesDue view asked given
+due_done view asked w given done rs shows = passed (answer view.schema rs asked) (done rs shows)
+  where
+    passed : (r : Result Found Refusal) → IfErr r (λ d. Ok w ≡ Err d) → IfErr r (λ d. given ≡ Err d)
+    passed (Ok found) u = tt
+    passed (Err d) other = cc

@@ -121,11 +121,13 @@ MayRefuse policy s Force e = MayRefuseForce s e
 MayRefuse policy s Sweep e = (e ≡ Memory) ⊎ (e ≡ Device)
 MayRefuse policy s Stat e = e ≡ Memory
 
--- What maintenance keeps that is refused: a MERGE and a FORCE the segments and what waits, and all but a MERGE the merge in the making.
+-- What maintenance keeps that is refused: a MERGE and a FORCE the segments and what waits, all but a MERGE the merge in the making, and a STAT
+-- all that memory has.
 abbrev pub KeepsBehind : Chore → Shape → Shape → Type 0
 KeepsBehind Merge s new = KeepsSegments s new
 KeepsBehind Force s new = KeepsMerge s new × KeepsSegments s new
-KeepsBehind chore s new = new.merging ≡ s.merging
+KeepsBehind Sweep s new = new.merging ≡ s.merging
+KeepsBehind Stat s new = new ≡ s
 
 -- ---- what is swept
 

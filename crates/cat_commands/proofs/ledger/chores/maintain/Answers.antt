@@ -1,12 +1,12 @@
-use Rattle.std.proofs.Common.{ap, refl, sym, ◌∙◌}
-use Rattle.std.specs.Prelude.{◌≡◌, ◌≢◌, Err}
+use Rattle.std.proofs.Common.{ap, length, refl, subst, sym, ◌∙◌}
+use Rattle.std.specs.Prelude.{◌≡◌, ◌≢◌, Err, IfOk}
 use Rattle.cat_base.specs.declared.refusal.Refusal.TheVariants.{Damaged, Device, Line as NoForm, Memory}
 use Rattle.cat_model.specs.Run.{Chore, Command}
 use Rattle.cat_ledger.specs.Ledgers.{device_in, policy_in, shape_in}
 use Rattle.cat_ledger_laws.proofs.lines.RefusalAnswers.{foreign_chores_answer}
-use Rattle.cat_protocol.specs.replies.Reply.{reply_of}
+use Rattle.cat_protocol.specs.replies.Reply.{answer_of, reply_of}
 use Rattle.cat_commands.specs.declared.ledger.chores.Chore.TheVariants.{Force, Merge, Stat, Sweep}
-use Rattle.cat_commands.specs.ledger.Chores.{chore_of}
+use Rattle.cat_commands.specs.ledger.Chores.{TellsChore, chore_of}
 use Rattle.cat_commands.proofs.ledger.Answered.{at_zero}
 use Rattle.cat_commands.proofs.ledger.Kept.{behind_force, behind_none, behind_same, behind_so, reach_any, reach_so}
 use Rattle.cat_ledger.proofs.Failures.{memory_is_none, none_fails}
@@ -222,3 +222,74 @@ returns-in-Sweep-clause-untold g c = λ merges. absurd (merge_differs (sym merge
 
 pub returns-in-Stat-clause-untold : goal.returns-in-Stat-clause-untold
 returns-in-Stat-clause-untold g c = λ merges. absurd (stat_is_none (sym c.in-Stat.is ∙ merges))
+
+pub returns-in-Stat-clause-told : goal.returns-in-Stat-clause-told
+returns-in-Stat-clause-told g c =
+    subst (λ k. IfOk c.tell_stat.result (λ a. TellsChore (length c.args.filters.now.cached) (shape_in c.args.ledger.now) k (answer_of a))) (sym c.in-Stat.is)
+    c.tell_stat.ensures.told
+
+pub returns-in-Stat-clause-crash : goal.returns-in-Stat-clause-crash
+returns-in-Stat-clause-crash g c = λ q used new merge e might. might
+
+pub returns-then-session-ne0-clause-foreign : goal.returns-then-session-ne0-clause-foreign
+returns-then-session-ne0-clause-foreign g c = λ other. (refl, refl, refl)
+
+pub returns-then-session-ne0-clause-refusal : goal.returns-then-session-ne0-clause-refusal
+returns-then-session-ne0-clause-refusal g c = λ zero. absurd (c.if-session-ne0.true zero)
+
+pub returns-then-session-ne0-clause-sets : goal.returns-then-session-ne0-clause-sets
+returns-then-session-ne0-clause-sets g c = λ zero. absurd (c.if-session-ne0.true zero)
+
+pub returns-in-Merge-clause-foreign : goal.returns-in-Merge-clause-foreign
+returns-in-Merge-clause-foreign g c = λ other. absurd (other c.if-session-ne0.false)
+
+pub returns-in-Merge-clause-refusal : goal.returns-in-Merge-clause-refusal
+returns-in-Merge-clause-refusal g c = λ zero. rw c.in-Merge.is c.merge.ensures.refusal
+
+pub returns-in-Merge-clause-sets : goal.returns-in-Merge-clause-sets
+returns-in-Merge-clause-sets g c = λ zero. rw c.in-Merge.is c.merge.ensures.sets
+
+pub returns-in-Force-clause-foreign : goal.returns-in-Force-clause-foreign
+returns-in-Force-clause-foreign g c = λ other. absurd (other c.if-session-ne0.false)
+
+pub returns-in-Force-clause-refusal : goal.returns-in-Force-clause-refusal
+returns-in-Force-clause-refusal g c = λ zero. rw c.in-Force.is c.force.ensures.refusal
+
+pub returns-in-Force-clause-sets : goal.returns-in-Force-clause-sets
+returns-in-Force-clause-sets g c = λ zero. rw c.in-Force.is
+
+pub returns-in-Sweep-clause-foreign : goal.returns-in-Sweep-clause-foreign
+returns-in-Sweep-clause-foreign g c = λ other. absurd (other c.if-session-ne0.false)
+
+pub returns-in-Sweep-clause-refusal : goal.returns-in-Sweep-clause-refusal
+returns-in-Sweep-clause-refusal g c = λ zero. rw c.in-Sweep.is c.sweep.ensures.refusal
+
+pub returns-in-Sweep-clause-sets : goal.returns-in-Sweep-clause-sets
+returns-in-Sweep-clause-sets g c = λ zero. rw c.in-Sweep.is
+
+pub returns-in-Stat-clause-foreign : goal.returns-in-Stat-clause-foreign
+returns-in-Stat-clause-foreign g c = λ other. absurd (other c.if-session-ne0.false)
+
+pub returns-in-Stat-clause-refusal : goal.returns-in-Stat-clause-refusal
+returns-in-Stat-clause-refusal g c = λ zero. rw c.in-Stat.is c.tell_stat.ensures.refusal
+
+pub returns-in-Stat-clause-sets : goal.returns-in-Stat-clause-sets
+returns-in-Stat-clause-sets g c = λ zero. rw c.in-Stat.is
+
+pub returns-in-Merge-clause-known : goal.returns-in-Merge-clause-known
+returns-in-Merge-clause-known g c = c.merge.ensures.known
+
+pub returns-in-Merge-clause-below : goal.returns-in-Merge-clause-below
+returns-in-Merge-clause-below g c = c.merge.ensures.below
+
+pub returns-in-Merge-clause-crash : goal.returns-in-Merge-clause-crash
+returns-in-Merge-clause-crash g c = λ q used. c.merge.ensures.crash q
+
+pub returns-in-Force-clause-crash : goal.returns-in-Force-clause-crash
+returns-in-Force-clause-crash g c = λ q used. c.force.ensures.crash q
+
+pub returns-in-Sweep-clause-crash : goal.returns-in-Sweep-clause-crash
+returns-in-Sweep-clause-crash g c = c.sweep.ensures.crash
+
+pub returns-in-Sweep-clause-told : goal.returns-in-Sweep-clause-told
+returns-in-Sweep-clause-told g c = rw c.in-Sweep.is c.sweep.ensures.told

@@ -21,3 +21,24 @@ returns-clause-lacks g c = c.merge_step-answer.ensures.lacks
 
 pub returns-clause-untold : goal.returns-clause-untold
 returns-clause-untold g c = c.merge_step-answer.ensures.untold
+
+pub returns-clause-answers : goal.returns-clause-answers
+returns-clause-answers g c = c.merge_step-answer.ensures.answers
+
+pub returns-clause-refusal : goal.returns-clause-refusal
+returns-clause-refusal g c = c.merge_step-answer.ensures.refusal
+
+pub returns-clause-reach : goal.returns-clause-reach
+returns-clause-reach g c = c.merge_step-answer.ensures.reach
+
+pub returns-clause-crash : goal.returns-clause-crash
+returns-clause-crash g c = c.merge_step-answer.ensures.crash
+
+pub returns-clause-segments : goal.returns-clause-segments
+returns-clause-segments g c = c.merge_step-answer.ensures.segments
+
+pub returns-clause-known : goal.returns-clause-known
+returns-clause-known g c = c.keep_among.ensures.known
+
+pub returns-clause-below : goal.returns-clause-below
+returns-clause-below g c = c.keep_among.ensures.below

@@ -1,4 +1,5 @@
-use Rattle.cat_model.specs.Run.{Chore, News}
+use Rattle.std.proofs.Common.{ap}
+use Rattle.cat_model.specs.Run.{Answer, Chore, News}
 use Rattle.cat_ledger.specs.Ledgers.{device_in, policy_in, shape_in}
 use Rattle.cat_ledger_laws.proofs.lines.StopAnswers.{chores_answer, sweeps_tell}
 use Rattle.cat_ledger.proofs.Failures.{fails_as}
@@ -43,3 +44,27 @@ returns-in-Ok-clause-making g c = c.in-Ok.ensures.making
 
 pub returns-in-Err-clause-making : goal.returns-in-Err-clause-making
 returns-in-Err-clause-making g c = c.in-Err.ensures.making
+
+pub returns-in-Ok-clause-told : goal.returns-in-Ok-clause-told
+returns-in-Ok-clause-told g c = ap (λ n. Answer.news (News.swept n)) c.in-Ok.ensures.count
+
+pub returns-in-Err-clause-told : goal.returns-in-Err-clause-told
+returns-in-Err-clause-told g c = tt
+
+pub returns-in-Err-clause-swept : goal.returns-in-Err-clause-swept
+returns-in-Err-clause-swept g c = λ carried. tt
+
+pub returns-in-Err-clause-refusal : goal.returns-in-Err-clause-refusal
+returns-in-Err-clause-refusal g c = c.in-Err.ensures.refusal
+
+pub returns-in-Err-clause-crash : goal.returns-in-Err-clause-crash
+returns-in-Err-clause-crash g c = λ q used new merge. c.in-Err.ensures.crash q used
+
+pub returns-in-Err-clause-goes : goal.returns-in-Err-clause-goes
+returns-in-Err-clause-goes g c = c.in-Err.ensures.goes
+
+pub returns-in-Ok-clause-goes : goal.returns-in-Ok-clause-goes
+returns-in-Ok-clause-goes g c = c.in-Ok.ensures.goes
+
+pub returns-in-Ok-clause-crash : goal.returns-in-Ok-clause-crash
+returns-in-Ok-clause-crash g c = λ q used new merge. c.in-Ok.ensures.crash q used

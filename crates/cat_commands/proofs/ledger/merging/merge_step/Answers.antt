@@ -38,3 +38,24 @@ returns-in-Err-clause-lacks g c = λ is. (c.in-Err.ensures.lacking is, c.in-Err.
 
 pub returns-in-Err-clause-untold : goal.returns-in-Err-clause-untold
 returns-in-Err-clause-untold g c = c.in-Err.ensures.untold
+
+pub returns-in-Err-clause-reach : goal.returns-in-Err-clause-reach
+returns-in-Err-clause-reach g c = c.in-Err.ensures.reach
+
+pub returns-in-Err-clause-crash : goal.returns-in-Err-clause-crash
+returns-in-Err-clause-crash g c = c.in-Err.ensures.crash
+
+pub returns-in-Err-clause-goes : goal.returns-in-Err-clause-goes
+returns-in-Err-clause-goes g c = c.in-Err.ensures.goes
+
+pub returns-in-Err-clause-segments : goal.returns-in-Err-clause-segments
+returns-in-Err-clause-segments g c = c.in-Err.ensures.segments
+
+pub returns-in-Err-clause-refusal : goal.returns-in-Err-clause-refusal
+returns-in-Err-clause-refusal g c = record { spent = c.in-Err.ensures.spent; left = c.in-Err.ensures.left; damaged = c.in-Err.ensures.damaged }
+
+pub returns-in-Ok-clause-crash : goal.returns-in-Ok-clause-crash
+returns-in-Ok-clause-crash g c = c.in-Ok.ensures.crash
+
+pub returns-in-Ok-clause-goes : goal.returns-in-Ok-clause-goes
+returns-in-Ok-clause-goes g c = c.in-Ok.ensures.goes

@@ -1,4 +1,4 @@
-use Rattle.std.proofs.Common.{refl, subst, sym}
+use Rattle.std.proofs.Common.{ap, refl, subst, sym}
 use Rattle.std.specs.Prelude.{Ok, Err, IsTrue}
 use Rattle.cat_base.specs.declared.refusal.Refusal.TheVariants.{Memory}
 use Rattle.cat_model.specs.Run.{Answer, Chore, Command, may_tell}
@@ -44,3 +44,21 @@ returns-in-Err-clause-answers g c =
       at_zero (policy_in ledger) told told s s c.args.session (Command.chore Chore.warm) (Err Memory) c.if-session-ne0.false
           (memory_refused (policy_in ledger) told told s s 0 (Command.chore Chore.warm) refl (refl, λ q. refl)),
     )
+
+pub returns-in-Ok-clause-told : goal.returns-in-Ok-clause-told
+returns-in-Ok-clause-told g c = record { news = c.in-Ok.news; told = ap Answer.news c.news_told.ensures; step = rw c.leaves.ensures at c.in-Ok.ensures.ok }
+
+pub returns-in-Ok-clause-known : goal.returns-in-Ok-clause-known
+returns-in-Ok-clause-known g c = rw c.leaves.ensures at c.in-Ok.ensures.known
+
+pub returns-in-Ok-clause-below : goal.returns-in-Ok-clause-below
+returns-in-Ok-clause-below g c = rw c.leaves.ensures at c.in-Ok.ensures.below
+
+pub returns-in-Err-clause-known : goal.returns-in-Err-clause-known
+returns-in-Err-clause-known g c = rw c.leaves.ensures at c.in-Err.ensures.known
+
+pub returns-in-Err-clause-below : goal.returns-in-Err-clause-below
+returns-in-Err-clause-below g c = rw c.leaves.ensures at c.in-Err.ensures.below
+
+pub returns-in-Err-clause-refusal : goal.returns-in-Err-clause-refusal
+returns-in-Err-clause-refusal g c = λ zero. (refl, c.in-Err.ensures.err)

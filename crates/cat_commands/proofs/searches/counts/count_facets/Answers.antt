@@ -1,5 +1,5 @@
-use Rattle.std.proofs.Common.{◌≡◌, All, ap, inl, option_map, refl}
-use Rattle.std.specs.Prelude.{Err, Ok, Some}
+use Rattle.std.proofs.Common.{◌≡◌, ◌∙◌, All, ap, inl, option_map, refl, sym}
+use Rattle.std.specs.Prelude.{Err, Ok}
 use Rattle.cat_model.specs.Answer.{Found, Read}
 use Rattle.cat_model.specs.Grammar.{Spells}
 use Rattle.cat_cached_sets.specs.cat_query.View.{query_of}
@@ -159,3 +159,51 @@ returns-in_err-facets-clause-due c =
 
 pub returns-in_err-query-clause-unheld : goal.returns-in_err-query-clause-unheld
 returns-in_err-query-clause-unheld c = λ unheld sound. absurd (sound c.in_err-query.ensures.err.0 c.in_err-query.ensures.err.2)
+
+pub returns-in_err-of-clause-unheld : goal.returns-in_err-of-clause-unheld
+returns-in_err-of-clause-unheld c = λ none sound. let no = sym c.in-Some.is ∙ none in cc
+
+pub returns-in_default-query-clause-unheld : goal.returns-in_default-query-clause-unheld
+returns-in_default-query-clause-unheld c = λ none sound. let no = sym c.in-Some.is ∙ none in cc
+
+pub returns-in_err-facets-clause-unheld : goal.returns-in_err-facets-clause-unheld
+returns-in_err-facets-clause-unheld c = λ none sound. let no = sym c.in-Some.is ∙ none in cc
+
+pub returns-clause-unheld : goal.returns-clause-unheld
+returns-clause-unheld c = λ none sound. let no = sym c.in-Some.is ∙ none in cc
+
+pub returns-in_err-query-clause-known : goal.returns-in_err-query-clause-known
+returns-in_err-query-clause-known c = λ s knows. knows
+
+pub returns-in_err-query-clause-below : goal.returns-in_err-query-clause-below
+returns-in_err-query-clause-below c = λ s knows. knows
+
+pub returns-in_default-clause-known : goal.returns-in_default-clause-known
+returns-in_default-clause-known c = λ s knows. knows
+
+pub returns-in_default-clause-below : goal.returns-in_default-clause-below
+returns-in_default-clause-below c = λ s knows. knows
+
+pub returns-in_err-of-clause-known : goal.returns-in_err-of-clause-known
+returns-in_err-of-clause-known c = λ s knows. knows
+
+pub returns-in_err-of-clause-below : goal.returns-in_err-of-clause-below
+returns-in_err-of-clause-below c = λ s knows. knows
+
+pub returns-in_default-query-clause-known : goal.returns-in_default-query-clause-known
+returns-in_default-query-clause-known c = λ s knows. knows
+
+pub returns-in_default-query-clause-below : goal.returns-in_default-query-clause-below
+returns-in_default-query-clause-below c = λ s knows. knows
+
+pub returns-in_err-facets-clause-known : goal.returns-in_err-facets-clause-known
+returns-in_err-facets-clause-known c = c.in_err-facets.ensures.known
+
+pub returns-clause-known : goal.returns-clause-known
+returns-clause-known c = c.in_ok-facets.ensures.known
+
+pub returns-in_err-facets-clause-below : goal.returns-in_err-facets-clause-below
+returns-in_err-facets-clause-below c = c.in_err-facets.ensures.below
+
+pub returns-clause-below : goal.returns-clause-below
+returns-clause-below c = c.in_ok-facets.ensures.below

@@ -1,13 +1,15 @@
-use Rattle.std.proofs.Common.{◌∙◌, ap, subst, sym}
-use Rattle.std.specs.Prelude.{Ok}
+use Rattle.std.proofs.Common.{◌∙◌, ap, refl, subst, sym}
+use Rattle.std.specs.Prelude.{Err, Ok}
 use Rattle.std.specs.Result.{result_from_control_flow}
-use Rattle.cat_model.specs.Answer.{Found}
+use Rattle.cat_model.specs.Answer.{Found, Read}
 use Rattle.cat_model.specs.View.{segments_of}
 use Rattle.cat_cached_sets.specs.cat_query.View.{query_of}
 use Rattle.cat_protocol.specs.cat_search.Views.{Prepared}
 use Rattle.cat_protocol.specs.cat_facets.Kept.{RemembersOf, RemembersOfBelow}
 use Rattle.cat_protocol.specs.cat_facets.States.{IsFacetsAnswer, WantedCounts}
-use Rattle.cat_commands.proofs.searches.Cached.{noted_after, prepared_is}
+use Rattle.cat_ledger.proofs.Results.{passed_on}
+use Rattle.cat_commands.proofs.searches.Cached.{at_err, none_ok, noted_after, prepared_is}
+use Rattle.cat_commands.proofs.searches.Told.{due_done, due_passed}
 use Rattle.cat_commands.proofs.searches.counts.counts_of.Goals as goal
 
 pub returns-clause-ok : goal.returns-clause-ok
@@ -47,3 +49,62 @@ pub returns-in_err-facets-clause-kept_below : goal.returns-in_err-facets-clause-
 returns-in_err-facets-clause-kept_below c =
     let is = prepared_is c.prepare-prepared.result c.in_ok-prepared.prepared (c.branch-prepared.ensures ∙ ap result_from_control_flow c.in_ok-prepared.is) c.args.view.now c.args.query c.prepare-prepared.ensures.ok in
     subst (λ (p : Prepared). RemembersOfBelow (segments_of p.view.leaves) c.args.states.now c.counts.new.self) is c.counts.ensures.below
+
+pub returns-clause-known : goal.returns-clause-known
+returns-clause-known c = λ s knows. c.note.ensures.known s (c.prepare-prepared.ensures.known s knows)
+
+pub returns-clause-below : goal.returns-clause-below
+returns-clause-below c = λ s knows. c.note.ensures.below s (c.prepare-prepared.ensures.below s knows)
+
+pub returns-in_err-wanted-clause-err : goal.returns-in_err-wanted-clause-err
+returns-in_err-wanted-clause-err c = rw (passed_on c.from_residual.result c.in_err-wanted.field-0.0 c.from_residual.ensures) (λ other. c.in_err-wanted.ensures.err (query_of c.args.query))
+
+pub returns-in_err-wanted-clause-due : goal.returns-in_err-wanted-clause-due
+returns-in_err-wanted-clause-due c =
+    let e = c.in_err-wanted.field-0.0 in
+    λ q. due_passed c.args.view.now (Read.facets c.args.dimension.now c.args.count (Ok q)) e (Err e) c.from_residual.result refl (passed_on c.from_residual.result c.in_err-wanted.field-0.0 c.from_residual.ensures) (c.in_err-wanted.ensures.due q)
+
+pub returns-in_err-prepared-clause-due : goal.returns-in_err-prepared-clause-due
+returns-in_err-prepared-clause-due c = λ q. due_done c.args.view.now (Read.facets c.args.dimension.now c.args.count (Ok q)) c.in_ok-wanted.wanted c.from_residual-in_err-prepared.result (c.in_ok-wanted.ensures.due q)
+
+pub returns-in_err-facets-clause-due : goal.returns-in_err-facets-clause-due
+returns-in_err-facets-clause-due c = λ q. due_done c.args.view.now (Read.facets c.args.dimension.now c.args.count (Ok q)) c.in_ok-wanted.wanted c.from_residual-in_err-facets.result (c.in_ok-wanted.ensures.due q)
+
+pub returns-clause-due : goal.returns-clause-due
+returns-clause-due c = λ q. due_done c.args.view.now (Read.facets c.args.dimension.now c.args.count (Ok q)) c.in_ok-wanted.wanted (Ok c.in_ok-facets.facets) (c.in_ok-wanted.ensures.due q)
+
+pub returns-in_err-wanted-clause-used : goal.returns-in_err-wanted-clause-used
+returns-in_err-wanted-clause-used c = at_err _ c.from_residual.result c.prepare-prepared.ensures.used
+
+pub returns-in_err-wanted-clause-known : goal.returns-in_err-wanted-clause-known
+returns-in_err-wanted-clause-known c = c.prepare-prepared.ensures.known
+
+pub returns-in_err-wanted-clause-below : goal.returns-in_err-wanted-clause-below
+returns-in_err-wanted-clause-below c = c.prepare-prepared.ensures.below
+
+pub returns-in_err-wanted-clause-noted : goal.returns-in_err-wanted-clause-noted
+returns-in_err-wanted-clause-noted c = none_ok _ c.from_residual.result c.from_residual.ensures.0
+
+pub returns-in_err-prepared-clause-used : goal.returns-in_err-prepared-clause-used
+returns-in_err-prepared-clause-used c = at_err _ c.from_residual-in_err-prepared.result c.prepare-prepared.ensures.used
+
+pub returns-in_err-prepared-clause-known : goal.returns-in_err-prepared-clause-known
+returns-in_err-prepared-clause-known c = c.prepare-prepared.ensures.known
+
+pub returns-in_err-prepared-clause-below : goal.returns-in_err-prepared-clause-below
+returns-in_err-prepared-clause-below c = c.prepare-prepared.ensures.below
+
+pub returns-in_err-prepared-clause-noted : goal.returns-in_err-prepared-clause-noted
+returns-in_err-prepared-clause-noted c = none_ok _ c.from_residual-in_err-prepared.result c.from_residual-in_err-prepared.ensures.0
+
+pub returns-in_err-facets-clause-used : goal.returns-in_err-facets-clause-used
+returns-in_err-facets-clause-used c = at_err _ c.from_residual-in_err-facets.result c.prepare-prepared.ensures.used
+
+pub returns-in_err-facets-clause-known : goal.returns-in_err-facets-clause-known
+returns-in_err-facets-clause-known c = c.prepare-prepared.ensures.known
+
+pub returns-in_err-facets-clause-below : goal.returns-in_err-facets-clause-below
+returns-in_err-facets-clause-below c = c.prepare-prepared.ensures.below
+
+pub returns-in_err-facets-clause-noted : goal.returns-in_err-facets-clause-noted
+returns-in_err-facets-clause-noted c = none_ok _ c.from_residual-in_err-facets.result c.from_residual-in_err-facets.ensures.0

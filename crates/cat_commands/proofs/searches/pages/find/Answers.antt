@@ -1,5 +1,5 @@
-use Rattle.std.proofs.Common.{◌≡◌, All, ap, inl, option_map, refl}
-use Rattle.std.specs.Prelude.{Err, Ok, Some}
+use Rattle.std.proofs.Common.{◌≡◌, ◌∙◌, All, ap, inl, option_map, refl, sym}
+use Rattle.std.specs.Prelude.{Err, Ok}
 use Rattle.cat_model.specs.Answer.{Found, Read}
 use Rattle.cat_model.specs.Grammar.{Spells}
 use Rattle.cat_cached_sets.specs.cat_query.View.{query_of}
@@ -111,3 +111,62 @@ returns-in_err-page-clause-due c =
 
 pub returns-in_err-query-clause-unheld : goal.returns-in_err-query-clause-unheld
 returns-in_err-query-clause-unheld c = λ unheld sound. absurd (sound c.in_err-query.ensures.err.0 c.in_err-query.ensures.err.2)
+
+pub returns-in_default-clause-unheld : goal.returns-in_default-clause-unheld
+returns-in_default-clause-unheld c = λ _ _. refl
+
+pub returns-in_err-of-clause-unheld : goal.returns-in_err-of-clause-unheld
+returns-in_err-of-clause-unheld c = λ none sound. let no = sym c.in-Some.is ∙ none in cc
+
+pub returns-in_default-query-clause-unheld : goal.returns-in_default-query-clause-unheld
+returns-in_default-query-clause-unheld c = λ none sound. let no = sym c.in-Some.is ∙ none in cc
+
+pub returns-in_err-page-clause-unheld : goal.returns-in_err-page-clause-unheld
+returns-in_err-page-clause-unheld c = λ none sound. let no = sym c.in-Some.is ∙ none in cc
+
+pub returns-clause-unheld : goal.returns-clause-unheld
+returns-clause-unheld c = λ none sound. let no = sym c.in-Some.is ∙ none in cc
+
+pub returns-in_err-query-clause-known : goal.returns-in_err-query-clause-known
+returns-in_err-query-clause-known c = λ s knows. knows
+
+pub returns-in_err-query-clause-below : goal.returns-in_err-query-clause-below
+returns-in_err-query-clause-below c = λ s knows. knows
+
+pub returns-in_default-clause-known : goal.returns-in_default-clause-known
+returns-in_default-clause-known c = λ s knows. knows
+
+pub returns-in_default-clause-below : goal.returns-in_default-clause-below
+returns-in_default-clause-below c = λ s knows. knows
+
+pub returns-in_err-of-clause-known : goal.returns-in_err-of-clause-known
+returns-in_err-of-clause-known c = λ s knows. knows
+
+pub returns-in_err-of-clause-below : goal.returns-in_err-of-clause-below
+returns-in_err-of-clause-below c = λ s knows. knows
+
+pub returns-in_default-query-clause-known : goal.returns-in_default-query-clause-known
+returns-in_default-query-clause-known c = λ s knows. knows
+
+pub returns-in_default-query-clause-below : goal.returns-in_default-query-clause-below
+returns-in_default-query-clause-below c = λ s knows. knows
+
+pub returns-in_err-page-clause-known : goal.returns-in_err-page-clause-known
+returns-in_err-page-clause-known c = c.in_err-page.ensures.known
+
+pub returns-clause-known : goal.returns-clause-known
+returns-clause-known c = c.in_ok-page.ensures.known
+
+pub returns-in_err-page-clause-below : goal.returns-in_err-page-clause-below
+returns-in_err-page-clause-below c = c.in_err-page.ensures.below
+
+pub returns-clause-below : goal.returns-clause-below
+returns-clause-below c = c.in_ok-page.ensures.below
+
+pub returns-in_err-of-clause-due : goal.returns-in_err-of-clause-due
+returns-in_err-of-clause-due c =
+    let ask = c.args.ask in
+    let given = c.from_residual-in_err-of.result in
+    let e = c.in_err-of.field-0.0 in
+    to_held (λ v. (q : model.Query) → Spells c.args.schema.now c.args.text.now q → GivesDue v.now (read_of ask q) given) c.args.held c.in-Some.view c.in-Some.is
+    (λ q spelled. due_passed c.in-Some.view.now (read_of ask q) e (Err e) given refl (passed_on given e c.from_residual-in_err-of.ensures) (c.in_err-of.ensures.due q))
