@@ -1,5 +1,5 @@
 -- What a line makes of a world that a call of its ledger answers with a number: one lemma for each kind of line.
-use Rattle.std.proofs.Common.{◌≡◌, ℕ, ◌<◌, ◌≤◌, Bool, true, false, true≢false, List, refl, sym, ◌∙◌, ap, subst, arith}
+use Rattle.std.proofs.Common.{◌≡◌, ℕ, ◌<◌, Bool, true, false, true≢false, List, refl, sym, ◌∙◌, ap, subst, arith}
 use Rattle.std.specs.Prelude.{◌⊎◌, Some, Result, Ok, Err, IfErr, OnErr}
 use Rattle.cat_base.specs.declared.refusal.Refusal.{Refusal}
 use Rattle.cat_base.specs.declared.refusal.Refusal.TheVariants.{Device, Full, Memory, Spent}
@@ -27,7 +27,7 @@ use Rattle.cat_service.specs.Cached.{MakesOfSets}
 use Rattle.cat_service.specs.Causes.{HasCause}
 use Rattle.cat_service.specs.Lines.{Does}
 use Rattle.cat_service.specs.Worlds.{IsWorld, Service}
-use Rattle.cat_service.proofs.Caused.{commit_caused, refresh_caused, unchanged_making}
+use Rattle.cat_service.proofs.Caused.{commit_caused, refresh_caused, unchanged_making, unchanged_still}
 use Rattle.cat_service.proofs.Kept.{does}
 use Rattle.cat_service.proofs.Names.{says_texts}
 use Rattle.cat_service.proofs.Wanted.{SaysMayWant, commit_wants, refresh_wants, stopped}
@@ -91,9 +91,9 @@ module _ {D : Type 0} {f : Filters} {ks : List ReaderState} (bytes : D → ToldF
       × MakesOfSets session (Some said) before (reply_of result) after
 
   plainly : (said : Said) → is_plain said ≡ true → Quiet → Plainly said
-  plainly Said.snapshot is q = (refl, record { spent = λ k. tt; device = λ k. tt; counted = λ k. tt; damaged = λ k. tt; reached = λ k. tt; quiet = λ k. ap faults q.0; told = tt; swept = tt; rises = omega (arith, ap faults q.0); stays = tt; keeps = tt; making = unchanged_making old new result (Some Said.snapshot) (left_as (new ≡ old) r q.1) }, refl)
-  plainly (Said.release_snapshot g) is q = (refl, record { spent = λ k. tt; device = λ k. tt; counted = λ k. tt; damaged = λ k. tt; reached = λ k. tt; quiet = λ k. ap faults q.0; told = tt; swept = tt; rises = omega (arith, ap faults q.0); stays = tt; keeps = tt; making = unchanged_making old new result (Some (Said.release_snapshot g)) (left_as (new ≡ old) r q.1) }, refl)
-  plainly (Said.prune n) is q = (refl, record { spent = λ k. tt; device = λ k. tt; counted = λ k. tt; damaged = λ k. tt; reached = λ k. tt; quiet = λ k. ap faults q.0; told = tt; swept = tt; rises = omega (arith, ap faults q.0); stays = tt; keeps = tt; making = unchanged_making old new result (Some (Said.prune n)) (left_as (new ≡ old) r q.1) }, refl)
+  plainly Said.snapshot is q = (refl, record { spent = λ k. tt; device = λ k. tt; counted = λ k. tt; damaged = λ k. tt; reached = λ k. tt; quiet = λ k. ap faults q.0; told = tt; swept = tt; rises = omega (arith, ap faults q.0); stays = tt; keeps = tt; making = unchanged_making old new result (Some Said.snapshot) (left_as (new ≡ old) r q.1); still = unchanged_still old new result (left_as (new ≡ old) r q.1) }, refl)
+  plainly (Said.release_snapshot g) is q = (refl, record { spent = λ k. tt; device = λ k. tt; counted = λ k. tt; damaged = λ k. tt; reached = λ k. tt; quiet = λ k. ap faults q.0; told = tt; swept = tt; rises = omega (arith, ap faults q.0); stays = tt; keeps = tt; making = unchanged_making old new result (Some (Said.release_snapshot g)) (left_as (new ≡ old) r q.1); still = unchanged_still old new result (left_as (new ≡ old) r q.1) }, refl)
+  plainly (Said.prune n) is q = (refl, record { spent = λ k. tt; device = λ k. tt; counted = λ k. tt; damaged = λ k. tt; reached = λ k. tt; quiet = λ k. ap faults q.0; told = tt; swept = tt; rises = omega (arith, ap faults q.0); stays = tt; keeps = tt; making = unchanged_making old new result (Some (Said.prune n)) (left_as (new ≡ old) r q.1); still = unchanged_still old new result (left_as (new ≡ old) r q.1) }, refl)
   plainly _ is q = absurd (true≢false (sym is))
 
   pub plain_does : (said : Said) → is_plain said ≡ true → Answers said → Quiet → policy_in new ≡ policy_in old

@@ -1,7 +1,7 @@
 -- What an opened world begins with.
 use Rattle.std.proofs.Common.{◌≡◌, ℕ, List, [], ◌∷◌, ap, ap₂, append-nil, map, refl, sym, ◌∙◌, subst, inl, inr}
 use Rattle.std.specs.List.{AllByRecursion}
-use Rattle.std.specs.Prelude.{◌≢◌, ◌⊎◌, Option, Some, None, Result, Ok, Err, ok_or, ◌++◌}
+use Rattle.std.specs.Prelude.{◌≢◌, ◌⊎◌, Option, Some, None, Result, Ok, Err, IfErr, IfOk, ok_or, ◌++◌}
 use Rattle.std.specs.Option.{option_map_or}
 use Rattle.cat_base.specs.declared.refusal.Refusal.{Refusal}
 use Rattle.cat_base.specs.declared.refusal.Refusal.TheVariants.{Damaged, Device, Json as NoJson, Kind, Line as NoForm, Memory}
@@ -14,6 +14,8 @@ use Rattle.cat_model.specs.Table.{Opened}
 use Rattle.cat_model.specs.Text.{Text}
 use Rattle.cat_model.proofs.Opening.{fresh_begins}
 use Rattle.cat_items.specs.Reading.{json_of, schema_of}
+use Rattle.cat_directory.specs.Devices.{FileContent}
+use Rattle.cat_directory.specs.declared.name.FileName.{FileName}
 use Rattle.cat_ledger_laws.specs.model.Ledger.{Ledger, IsWholeCommit, commit_shown, portions_in, state_of, table_of}
 use Rattle.cat_ledger_laws.specs.model.Portions.{Portion, leaf_of, records_of}
 use Rattle.cat_ledger_laws.specs.model.Stored.{FileBytes, IsCommitStored}
@@ -27,9 +29,13 @@ use Rattle.cat_commands.specs.cat_ledger_state.startup.Opened.{IsOpenedAtCommit,
 use Rattle.cat_commands.specs.cat_ledger_state.startup.Refused.{IsNewestDamaged, IsNewestForeign}
 use Rattle.cat_commands.specs.cat_ledger.Openings.{IsOpenedLedger}
 use Rattle.cat_commands.proofs.ledger_laws.Swept.{KeepsUsed}
-use Rattle.cat_service.specs.Opening.{BeginsIn, HoldsTable, OpensIn}
+use Rattle.cat_commands.specs.cat_ledger.Histories.{LeavesNoneAhead}
+use Rattle.cat_commands.specs.cat_protocol.declared.serving.machine.Unopened.{Unopened}
+use Rattle.cat_service.specs.Opening.{BeginsIn, HoldsTable, OpensIn, OpensWorld}
+use Rattle.cat_service.specs.Reasons.{OpensCaused, OpensSo}
+use Rattle.cat_service.specs.Worlds.{Service, device_of}
 use Rattle.cat_model.specs.Reasons.{CountsRefusal}
-use Rattle.cat_commands.specs.cat_ledger.Lasting.{IsCarried}
+use Rattle.cat_commands.specs.cat_ledger.Lasting.{AlwaysTells, IsCarried}
 
 -- what is opened, and the run that begins there
 abbrev Begun : ToldFiles → ToldFiles → Shape → Schema → Type 0
@@ -170,3 +176,20 @@ opening_counts fails old new Damaged device counted = ((λ is. absurd (let no : 
 opening_counts fails old new Memory device counted = ((λ is. absurd (let no : Memory ≡ Device = is in cc)), λ other. counted)
 opening_counts fails old new Device device counted = ((λ is. (device is, counted)), λ other. absurd (other refl))
 opening_counts fails old new _ device counted = absurd counted
+
+-- ---- a first line that is read
+
+both_ok : {A E : Type 0} (P Q : A → Type 0) (r : Result A E) → IfOk r P → IfOk r Q → IfOk r (λ a. P a × Q a)
+both_ok P Q (Ok a) p q = (p, q)
+both_ok P Q (Err e) p q = tt
+
+-- what opening a world by a text says, of the line that the text is of
+pub opens_caused : {D : Type 0} (bytes : D → ToldFiles) (may_leave : D → FileName → FileContent → Type 0) (can_fail : D → Type 0) (faults : D → ℕ)
+    (device : D) (line text : Text) (r : Result (Service D) (Unopened D)) → text ≡ line
+    → OpensWorld bytes may_leave device text r → IfOk r (λ w. AlwaysTells bytes → LeavesNoneAhead may_leave w.ledger)
+    → IfOk r (λ w. can_fail (device_of w) → can_fail device) → IfOk r (λ w. OpensSo bytes can_fail faults device text w)
+    → IfOk r (λ w. w.sets ≡ record { cached = []; noted = []; warming = None })
+    → IfErr r (λ u. CountsRefusal (can_fail device) (faults device) (faults u.seed) u.refusal)
+    → OpensCaused bytes may_leave can_fail faults device (Some line) r
+opens_caused bytes may_leave can_fail faults device line text r is opens ahead can begins sets counted =
+    rw (← is) ((opens, ahead, can), both_ok (λ w. OpensSo bytes can_fail faults device text w) (λ w. w.sets ≡ record { cached = []; noted = []; warming = None }) r begins sets, counted)

@@ -1,5 +1,5 @@
 -- The causes of replies, as those who answer tell them.
-use Rattle.std.proofs.Common.{◌≡◌, ◌≢◌, ℕ, ◌<◌, ◌≤◌, List, Bool, true, false, cond, ltb, length, refl, sym, ◌∙◌, ap, subst, inl, inr}
+use Rattle.std.proofs.Common.{◌≡◌, ◌≢◌, ℕ, ◌<◌, ◌≤◌, List, Bool, true, false, true≢false, cond, ltb, length, refl, sym, ◌∙◌, ap, subst, inl, inr}
 use Rattle.std.specs.Prelude.{◌⊎◌, Option, None, Some, Result, Ok, Err, IfErr, IfOk, IsTrue, OnErr}
 use Rattle.std.specs.List.{list_all}
 use Rattle.std.proofs.lemmas.Bool.Decides.{eqb_tells}
@@ -77,6 +77,15 @@ pub unchanged_making : {D : Type 0} (old left : LedgerOnDevice D) (result : Resu
     → (e : Refusal) → reply_of result ≡ Err e → said ≢ Some (Said.chore Chore.merge) → (shape_in left).merging ≡ (shape_in old).merging
 unchanged_making old left result said h e is other = ap (λ l. (shape_in l).merging) (kept_making (left ≡ old) result said h e is other)
 
+-- a line that moves no file and is refused leaves the ledger as it is kept
+pub kept_still : {B : Type 0} (A : Type 0) (result : Result code.Answer Refusal) → OnErr result A → (e : Refusal) → reply_of result ≡ Err e → B → A
+kept_still A (Ok a) h e is other = absurd (let no : ◌≡◌ {A = Reply} (Ok (answer_of a)) (Err e) = is in cc)
+kept_still A (Err x) h e is other = h
+
+pub unchanged_still : {D B : Type 0} (old left : LedgerOnDevice D) (result : Result code.Answer Refusal) → OnErr result (left ≡ old)
+    → (e : Refusal) → reply_of result ≡ Err e → B → shape_in left ≡ shape_in old
+unchanged_still old left result h e is other = ap shape_in (kept_still (left ≡ old) result h e is other)
+
 module _ {D : Type 0} (bytes : D → ToldFiles) (can_fail : D → Type 0) (faults : D → ℕ) (old : LedgerOnDevice D) (f : Filters)
     (result : Result code.Answer Refusal) (left : LedgerOnDevice D) (f' : Filters) where
   abbrev world : Service D
@@ -126,6 +135,7 @@ module _ {D : Type 0} (bytes : D → ToldFiles) (can_fail : D → Type 0) (fault
     stays = tt;
     keeps = kept_so KeepsMaking (Keeps (Said.put text)) (λ a. tt) (λ e kept. kept) result stays;
     making = λ e k other. (kept_making KeepsMaking result (Some (Said.put text)) stays e k other).merging;
+    still = λ e k other. absurd (true≢false other);
   }
 
   pub refresh_caused : IfErr result (λ e. e ≡ Spent → MayNotFlush (shape_in old)) → Fails → OnErr result KeepsMaking → Causes Said.refresh
@@ -142,6 +152,7 @@ module _ {D : Type 0} (bytes : D → ToldFiles) (can_fail : D → Type 0) (fault
     stays = tt;
     keeps = kept_so KeepsMaking (Keeps Said.refresh) (λ a. tt) (λ e kept. kept) result stays;
     making = λ e k other. (kept_making KeepsMaking result (Some Said.refresh) stays e k other).merging;
+    still = λ e k other. absurd (true≢false other);
   }
 
   pub get_caused : (t : ℕ) (id : Text)
@@ -162,12 +173,13 @@ module _ {D : Type 0} (bytes : D → ToldFiles) (can_fail : D → Type 0) (fault
     stays = tt;
     keeps = tt;
     making = λ e k other. ap (λ (s : Shape). s.merging) same;
+    still = λ e k other. same;
   }
 
   -- an OPEN, of which the run says what it is told
   pub open_caused : (token : Option ℕ) → Quiet → Rises → OnErr result (left ≡ old) → Causes (said_open token)
-  open_caused None quiet rises same = record { spent = λ k. tt; device = λ k. tt; counted = λ k. tt; damaged = λ k. tt; reached = λ k. tt; quiet = λ k. quiet; told = tt; swept = tt; rises = rises; stays = tt; keeps = tt; making = unchanged_making old left result _ same }
-  open_caused (Some t) quiet rises same = record { spent = λ k. tt; device = λ k. tt; counted = λ k. tt; damaged = λ k. tt; reached = λ k. tt; quiet = λ k. quiet; told = tt; swept = tt; rises = rises; stays = tt; keeps = tt; making = unchanged_making old left result _ same }
+  open_caused None quiet rises same = record { spent = λ k. tt; device = λ k. tt; counted = λ k. tt; damaged = λ k. tt; reached = λ k. tt; quiet = λ k. quiet; told = tt; swept = tt; rises = rises; stays = tt; keeps = tt; making = unchanged_making old left result _ same; still = unchanged_still old left result same }
+  open_caused (Some t) quiet rises same = record { spent = λ k. tt; device = λ k. tt; counted = λ k. tt; damaged = λ k. tt; reached = λ k. tt; quiet = λ k. quiet; told = tt; swept = tt; rises = rises; stays = tt; keeps = tt; making = unchanged_making old left result _ same; still = unchanged_still old left result same }
 
   -- ---- COMMIT
 
@@ -221,6 +233,7 @@ module _ {D : Type 0} (bytes : D → ToldFiles) (can_fail : D → Type 0) (fault
     stays = if_wrong (left ≡ old) (commit_text_of text) wrong;
     keeps = kept_so KeepsMaking (Keeps (Said.commit text)) (λ a. tt) (λ e kept. kept) result stays;
     making = λ e k other. (kept_making KeepsMaking result (Some (Said.commit text)) stays e k other).merging;
+    still = λ e k other. absurd (true≢false other);
   }
 
   -- ---- maintenance
@@ -231,8 +244,7 @@ module _ {D : Type 0} (bytes : D → ToldFiles) (can_fail : D → Type 0) (fault
   warm_told (Ok a) told = told
   warm_told (Err e) told = tt
 
-  pub warm_caused : IfOk result (λ a. IsWarmTold (shape_in old) f f' (answer_of a)) → Quiet → Rises → (shape_in left).merging ≡ (shape_in old).merging
-      → Causes (Said.chore Chore.warm)
+  pub warm_caused : IfOk result (λ a. IsWarmTold (shape_in old) f f' (answer_of a)) → Quiet → Rises → shape_in left ≡ shape_in old → Causes (Said.chore Chore.warm)
   warm_caused told quiet rises same = record {
     spent = λ k. tt;
     device = λ k. tt;
@@ -245,7 +257,8 @@ module _ {D : Type 0} (bytes : D → ToldFiles) (can_fail : D → Type 0) (fault
     rises = rises;
     stays = tt;
     keeps = tt;
-    making = λ e k other. same;
+    making = λ e k other. ap (λ (s : Shape). s.merging) same;
+    still = λ e k other. same;
   }
 
   -- session 0 alone is told anything but that the line has no form
@@ -352,6 +365,7 @@ module _ {D : Type 0} (bytes : D → ToldFiles) (can_fail : D → Type 0) (fault
         stays = tt;
         keeps = kept_so (KeepsBehind Merge (shape_in old) (shape_in left)) (Keeps (Said.chore Chore.merge)) (λ a. tt) (λ e kept. kept) result keeps;
         making = λ e k other. absurd (other refl);
+        still = λ e k other. absurd (true≢false other);
       }
       refuses Force may lacks reach fails told swept keeps = record {
         spent = λ k. let m = force_may may Spent (λ e. cc e) k in (m.due, m.spent refl);
@@ -366,6 +380,7 @@ module _ {D : Type 0} (bytes : D → ToldFiles) (can_fail : D → Type 0) (fault
         stays = tt;
         keeps = kept_so (KeepsBehind Force (shape_in old) (shape_in left)) (Keeps (Said.chore Chore.force)) (λ a. tt) (λ e kept. kept) result keeps;
         making = λ e k other. (kept_making (KeepsBehind Force (shape_in old) (shape_in left)) result (Some (Said.chore Chore.force)) keeps e k other).0.merging;
+        still = λ e k other. absurd (true≢false other);
       }
       refuses Sweep may lacks reach fails told swept keeps = record {
         spent = λ k. tt;
@@ -380,6 +395,7 @@ module _ {D : Type 0} (bytes : D → ToldFiles) (can_fail : D → Type 0) (fault
         stays = tt;
         keeps = tt;
         making = kept_making (KeepsBehind Sweep (shape_in old) (shape_in left)) result _ keeps;
+        still = λ e k other. absurd (true≢false other);
       }
       refuses Stat may lacks reach fails told swept keeps = record {
         spent = λ k. tt;
@@ -393,7 +409,8 @@ module _ {D : Type 0} (bytes : D → ToldFiles) (can_fail : D → Type 0) (fault
         rises = fails.rises;
         stays = tt;
         keeps = tt;
-        making = kept_making (KeepsBehind Stat (shape_in old) (shape_in left)) result _ keeps;
+        making = λ e k other. ap (λ (s : Shape). s.merging) (kept_making (KeepsBehind Stat (shape_in old) (shape_in left)) result (Some (Said.chore Chore.stat)) keeps e k other);
+        still = kept_still (KeepsBehind Stat (shape_in old) (shape_in left)) result keeps;
       }
 
       pub chore_caused : (chore : code_chore.Chore) → AnswersSaid bytes session (Said.chore (chore_of chore)) old (reply_of result) left

@@ -17,7 +17,7 @@ use Rattle.cat_ledger_laws.specs.shape.Ties.{ToldFiles}
 use Rattle.cat_ledger_laws.specs.lines.LineLaws.{line_of}
 use Rattle.cat_service.proofs.Caused.{failing_by}
 use Rattle.cat_service.specs.Cached.{MakesOfSets}
-use Rattle.cat_service.specs.Causes.{HasCause, TakesNumbers}
+use Rattle.cat_service.specs.Causes.{HasCause, HasFewPending, TakesNumbers}
 use Rattle.cat_service.specs.Lines.{IsCommandOf, StepsLine}
 use Rattle.cat_service.specs.Reasons.{StepsCaused}
 use Rattle.cat_service.specs.Worlds.{Service, device_of, policy_of, shape_of_service}
@@ -50,9 +50,9 @@ module _ {D : Type 0} (bytes : D → ToldFiles) (may_leave : D → FileName → 
       → SpellsOrShows text session said → (steps : StepsLine bytes session said old reply new) → (shape_of_service new).schema ≡ (shape_of_service old).schema
       → NamesFiles reply → GoesBy bytes may_leave said reply old.ledger new.ledger
       → HasCause bytes can_fail faults old said reply new → TakesNumbers (shape_of_service old) (shape_of_service new) → policy_of new ≡ policy_of old
-      → (can_fail (device_of new) → can_fail (device_of old)) → MakesOfSets session said old reply new
+      → (can_fail (device_of new) → can_fail (device_of old)) → MakesOfSets session said old reply new → HasFewPending (shape_of_service old)
       → StepsCaused bytes may_leave can_fail faults old (Some line) (told_to session steps.0 reply) new
-  heard_as new line text session said reply same readable spells steps fields names goes cause numbers policy can sets = (
+  heard_as new line text session said reply same readable spells steps fields names goes cause numbers policy can sets few = (
     (
       hears line session said steps.0 readable (subst (λ t. SpellsOrShows t session said) same spells) steps.1,
       (
@@ -65,5 +65,5 @@ module _ {D : Type 0} (bytes : D → ToldFiles) (may_leave : D → FileName → 
         can,
       ),
     ),
-    (said, steps.1, cause, numbers, steps.4, policy, sets),
+    (said, steps.1, cause, numbers, steps.4, policy, sets, few),
   )

@@ -1,20 +1,20 @@
 -- What a call of the ledger's model makes of the merge in the making, and of which merge the segments change, as a standing says it.
-use Rattle.std.proofs.Common.{◌≡◌, ◌≢◌, ℕ, ◌+◌, ◌<◌, ◌≤◌, List, [], ◌∷◌, ◌++◌, length, map, take, drop, sum, Bool, true, false, true≢false, cond, ltb, refl, sym, ◌∙◌, ap, subst, arith, inl, inr}
-use Rattle.std.specs.Prelude.{◌⊎◌, ◌==◌, ◌&&◌, not, Option, None, Some, Result, Ok, Err}
+use Rattle.std.proofs.Common.{◌≡◌, ◌≢◌, ℕ, ◌+◌, ◌≤◌, List, length, map, take, drop, sum, Bool, true, false, true≢false, cond, ltb, refl, sym, ◌∙◌, ap, subst, arith, inl, inr}
+use Rattle.std.specs.Prelude.{◌⊎◌, ◌==◌, Option, None, Some, Result, Ok, Err}
 use Rattle.std.specs.Result.{result_map_both}
 use Rattle.std.proofs.Math.Seq.{take-length}
 use Rattle.std.proofs.lemmas.List.{drop-map, length-map, take-map}
 use Rattle.cat_base.specs.declared.refusal.Refusal.{Refusal}
 use Rattle.cat_base.specs.declared.refusal.Refusal.TheVariants.{Full, Gone, Line as NoForm, NoCommit, NoSnapshot, NotHeld, Spent}
-use Rattle.cat_model.specs.Answer.{Found, answer, query_refusal}
+use Rattle.cat_model.specs.Answer.{Found}
 use Rattle.cat_model.specs.Limits.{last_number, row_limit, snapshot_limit}
-use Rattle.cat_model.specs.Run.{Answer, Chore, Command, Line, News, Reply, SegmentStat, snapshot_of, text_under}
+use Rattle.cat_model.specs.Run.{Answer, Chore, Command, News, Reply, SegmentStat, snapshot_of}
 use Rattle.cat_model.specs.Standings.{ForceTells, LiveRowsFall, MergeMoves, MergeTells, Progress, SegmentsMove, Standing, segment_rows}
 use Rattle.cat_model.specs.State.{has_commit, has_hold, refuses_refresh, snapshots_in}
 use Rattle.cat_model.specs.Window.{IsWindow}
-use Rattle.cat_ledger_laws.specs.model.Calls.{Installed, has_recorded, newest_in, records_passed_on}
+use Rattle.cat_ledger_laws.specs.model.Calls.{Installed, has_recorded, newest_in}
 use Rattle.cat_ledger_laws.specs.model.Ledger.{Ledger, state_of}
-use Rattle.cat_ledger_laws.specs.model.Plans.{MergePolicy, live_sets_of, sizes_of}
+use Rattle.cat_ledger_laws.specs.model.Plans.{MergePolicy, sizes_of}
 use Rattle.cat_ledger_laws.specs.model.Portions.{IsMerging, Merging, Portion, all_records, installed, merged, portion_window_now, settled}
 use Rattle.cat_ledger_laws.specs.model.Replies.{Calls, CarriesOut, IsLeft, Maintains}
 use Rattle.cat_service.proofs.Moved.{Moved, by_bool, halted}

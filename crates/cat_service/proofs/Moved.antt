@@ -1,6 +1,6 @@
 -- What a call of the ledger's model makes of what a standing tells of it.
 use Rattle.std.proofs.Common.{◌≡◌, ℕ, ◌+◌, ◌≤◌, List, [], ◌∷◌, length, Bool, true, false, true≢false, cond, ltb, refl, sym, ◌∙◌, ap, subst, arith, inl, inr}
-use Rattle.std.specs.Prelude.{◌⊎◌, ◌==◌, not, filter, option_to_list, None, Some, Ok, Err}
+use Rattle.std.specs.Prelude.{◌⊎◌, ◌==◌, not, filter, option_to_list, Ok, Err}
 use Rattle.std.proofs.lemmas.List.{length-append}
 use Rattle.std.proofs.lemmas.List.Filters.{length-filter_both}
 use Rattle.cat_base.specs.declared.refusal.Refusal.{Refusal}
@@ -8,7 +8,7 @@ use Rattle.cat_base.specs.declared.refusal.Refusal.TheVariants.{Full, Memory, Sp
 use Rattle.cat_model.specs.Item.{Record, Schema}
 use Rattle.cat_model.specs.Limits.{buffer_limit, last_number}
 use Rattle.cat_model.specs.Run.{Answer, Chore, Command, Line, News, Reply, accepted_by}
-use Rattle.cat_model.specs.Standings.{LiveRowsFall}
+use Rattle.cat_model.specs.Standings.{LiveRowsFall, moves_files}
 use Rattle.cat_model.specs.State.{Halts, has_hold, refuses_refresh, snapshots_in}
 use Rattle.cat_model.specs.Table.{without}
 use Rattle.cat_model.specs.Write.{Write, removes}
@@ -71,13 +71,31 @@ is_chore c = false
 abbrev pub LeavesMaking : Command → Reply → Ledger → Ledger → Type 0
 LeavesMaking c r l new = is_chore c ≡ false → ((e : Refusal) × (r ≡ Err e)) ⊎ (new.merging ≡ l.merging)
 
--- so is all that a standing tells of it, but for the numbers that come next and the writes
+-- the names that are known, with their users, and the numbers that come next are as they were
+pub record FilesStay (l new : Ledger) : Type 0 where
+  pub users : new.users ≡ l.users
+  pub segment : new.next_segment ≡ l.next_segment
+  pub generation : new.next_generation ≡ l.next_generation
+
+-- so behind a line that moves no file and isn't refused
+abbrev pub LeavesFiles : Command → Reply → Ledger → Ledger → Type 0
+LeavesFiles c r l new = moves_files c ≡ false → ((e : Refusal) × (r ≡ Err e)) ⊎ FilesStay l new
+
+files_same : (l new : Ledger) → new ≡ l → FilesStay l new
+files_same l new k = record {
+  users = ap (λ (x : Ledger). x.users) k;
+  segment = ap (λ (x : Ledger). x.next_segment) k;
+  generation = ap (λ (x : Ledger). x.next_generation) k;
+}
+
+-- so is all that a standing tells of it, but for the writes
 pub record Moved (c : Command) (r : Reply) (l new : Ledger) : Type 0 where
   pub taken : IsTakenBy c r l.next_generation new.next_generation
   pub segments : SegmentsGo r (portions_told l.portions) l.next_segment (length l.buffered) (portions_told new.portions) new.next_segment
   pub flushed : IsFlushedBy c r new.buffered
   pub waits : length new.buffered ≤ length l.buffered + writes_by c r
   pub making : LeavesMaking c r l new
+  pub files : LeavesFiles c r l new
 
 -- what a flush, or nothing, makes of it
 pub record Flows (l new : Ledger) : Type 0 where
@@ -97,6 +115,7 @@ same_flows l new k = record {
 flushed_flows : (l mid : Ledger) → Flushed l mid → Flows l mid
 flushed_flows l mid k = record {
   segments = inr (
+    k.some,
     ap (λ (x : Ledger). portions_told x.portions) k.rest ∙ told_flushed l.portions l.next_segment l.buffered,
     ap (λ (x : Ledger). x.next_segment) k.rest,
   );
@@ -124,8 +143,8 @@ room_flows l mid false k = flushed_flows l mid k
 
 module _ (c : Command) (r : Reply) (l new : Ledger) where
   -- nothing changed that is told, or what a flush makes of it
-  flows : IsTakenBy c r l.next_generation new.next_generation → IsFlushedBy c r new.buffered → Flows l new → Moved c r l new
-  flows taken flushed f = record {
+  flows : IsTakenBy c r l.next_generation new.next_generation → IsFlushedBy c r new.buffered → Flows l new → LeavesFiles c r l new → Moved c r l new
+  flows taken flushed f files = record {
     taken = taken;
     segments =
         flow_goes r (portions_told l.portions) (portions_told new.portions) (portions_told new.portions) l.next_segment (length l.buffered)
@@ -133,6 +152,7 @@ module _ (c : Command) (r : Reply) (l new : Ledger) where
     flushed = flushed;
     waits = (let a = f.waits in omega (arith, a));
     making = λ other. inr f.merging;
+    files = files;
   }
 
   -- the segments stay
@@ -141,20 +161,21 @@ module _ (c : Command) (r : Reply) (l new : Ledger) where
       flow_goes r (portions_told l.portions) (portions_told new.portions) (portions_told new.portions) l.next_segment (length l.buffered)
       new.next_segment new.next_segment (inl (ap portions_told p)) (λ e. e) (falls_not (portions_told new.portions))
 
-  still : flushes c ≡ false → new.portions ≡ l.portions → new.buffered ≡ l.buffered → new.merging ≡ l.merging
+  still : flushes c ≡ false → new.portions ≡ l.portions → new.buffered ≡ l.buffered → new.merging ≡ l.merging → LeavesFiles c r l new
       → Moved c r l new
-  still other p b m = record {
+  still other p b m files = record {
     taken = none_taken c r l.next_generation new.next_generation other;
     segments = stay p;
     flushed = no_flush c r new.buffered other;
     waits = (let a = ap length b in omega (arith, a));
     making = λ other. inr m;
+    files = files;
   }
 
   -- a write more
-  wrote_moves : (mid : Ledger) (w : Write) → flushes c ≡ false → Flows l mid → writes_by c r ≡ 1
+  wrote_moves : (mid : Ledger) (w : Write) → flushes c ≡ false → Flows l mid → LeavesFiles c r l mid → writes_by c r ≡ 1
       → new ≡ wrote mid w → Moved c r l new
-  wrote_moves mid w other f one is = record {
+  wrote_moves mid w other f files one is = record {
     taken = none_taken c r l.next_generation new.next_generation other;
     segments =
         flow_goes r (portions_told l.portions) (portions_told mid.portions) (portions_told new.portions) l.next_segment (length l.buffered)
@@ -166,6 +187,14 @@ module _ (c : Command) (r : Reply) (l new : Ledger) where
         let b = put_more w in
         let d = f.waits in omega (arith, a, b, d, one));
     making = λ other. inr (ap (λ (x : Ledger). x.merging) is ∙ f.merging);
+    files = λ none. elim (files none) [
+      | inl k ↦ inl k
+      | inr k ↦ inr (record {
+        users = ap (λ (x : Ledger). x.users) is ∙ k.users;
+        segment = ap (λ (x : Ledger). x.next_segment) is ∙ k.segment;
+        generation = ap (λ (x : Ledger). x.next_generation) is ∙ k.generation;
+      })
+    ];
   }
     where
       put_more : (w : Write) → length ((wrote mid w).buffered) ≤ length mid.buffered + 1
@@ -183,7 +212,7 @@ module _ (policy : MergePolicy) (s : ℕ) (r : Reply) (l new : Ledger) where
 
   same : (what : Chore) → new ≡ l → Does what
   same what k = flows (Command.chore what) r l new (none_taken (Command.chore what) r l.next_generation new.next_generation refl)
-      (no_flush (Command.chore what) r new.buffered refl) (same_flows l new k)
+      (no_flush (Command.chore what) r new.buffered refl) (same_flows l new k) (λ none. inr (files_same l new k))
 
   maintains : (what : Chore) (n : News) → IsMerging l.portions l.merging → r ≡ Ok (Answer.news n) → Maintains policy what n l new → Does what
   maintains Chore.merge News.idle making is m = same Chore.merge m.2
@@ -193,6 +222,7 @@ module _ (policy : MergePolicy) (s : ℕ) (r : Reply) (l new : Ledger) where
     flushed = no_flush (Command.chore Chore.merge) r new.buffered refl;
     waits = (let a = ap (λ (x : Ledger). length x.buffered) m.3.rest in omega (arith, a));
     making = λ other. absurd (true≢false other);
+    files = λ none. absurd (true≢false none);
   }
   maintains Chore.merge (News.copied n) making is m = record {
     taken = none_taken (Command.chore Chore.merge) r l.next_generation new.next_generation refl;
@@ -200,6 +230,7 @@ module _ (policy : MergePolicy) (s : ℕ) (r : Reply) (l new : Ledger) where
     flushed = no_flush (Command.chore Chore.merge) r new.buffered refl;
     waits = (let a = ap (λ (x : Ledger). length x.buffered) m.1.rest in omega (arith, a));
     making = λ other. absurd (true≢false other);
+    files = λ none. absurd (true≢false none);
   }
   maintains Chore.merge News.done making is m = record {
     taken = none_taken (Command.chore Chore.merge) r l.next_generation new.next_generation refl;
@@ -209,6 +240,7 @@ module _ (policy : MergePolicy) (s : ℕ) (r : Reply) (l new : Ledger) where
     flushed = no_flush (Command.chore Chore.merge) r new.buffered refl;
     waits = (let a = ap (λ (x : Ledger). length x.buffered) m.1.rest in omega (arith, a));
     making = λ other. absurd (true≢false other);
+    files = λ none. absurd (true≢false none);
   }
   maintains Chore.force News.idle making is m = same Chore.force m.2
   maintains Chore.force News.busy making is m = same Chore.force m.1
@@ -218,9 +250,11 @@ module _ (policy : MergePolicy) (s : ℕ) (r : Reply) (l new : Ledger) where
     flushed = no_flush (Command.chore Chore.force) r new.buffered refl;
     waits = (let a = ap (λ (x : Ledger). length x.buffered) m.2.rest in omega (arith, a));
     making = λ other. absurd (true≢false other);
+    files = λ none. absurd (true≢false none);
   }
   maintains Chore.sweep (News.swept n) making is m =
       still (Command.chore Chore.sweep) r l new refl (ap (λ (x : Ledger). x.portions) m.rest) (ap (λ (x : Ledger). x.buffered) m.rest) (ap (λ (x : Ledger). x.merging) m.rest)
+      (λ none. absurd (true≢false none))
   maintains what n making is m = same what m.1
 
 -- ---- what answers a command
@@ -233,15 +267,17 @@ module _ (policy : MergePolicy) (s : ℕ) (r : Reply) (l new : Ledger) where
   kept : (c : Command) → flushes c ≡ false → new ≡ l → Moved c r l new
   kept c other k =
       flows c r l new (none_taken c r l.next_generation new.next_generation other) (no_flush c r new.buffered other) (same_flows l new k)
+      (λ none. inr (files_same l new k))
 
   -- what is refused
   refuses : (c : Command) (e : Refusal) → r ≡ Err e → new ≡ l → Moved c r l new
   refuses c e is k = flows c r l new (λ a commit ok. refused r e a is ok) (λ a flush ok. refused r e a is ok) (same_flows l new k)
+      (λ none. inl (e, is))
 
   -- one write more, where it was accepted
-  writes : (c : Command) (w : Write) (a : Answer) → flushes c ≡ false → (mid : Ledger) → Flows l mid
+  writes : (c : Command) (w : Write) (a : Answer) → flushes c ≡ false → (mid : Ledger) → Flows l mid → LeavesFiles c r l mid
       → (r ≡ Ok a → writes_by c r ≡ 1) → r ≡ Ok a → new ≡ wrote mid w → Moved c r l new
-  writes c w a other mid f one is wrote_it = wrote_moves c r l new mid w other f (one is) wrote_it
+  writes c w a other mid f files one is wrote_it = wrote_moves c r l new mid w other f files (one is) wrote_it
 
   records_flow : (mid : Ledger) (b : Bool) → Flows l mid → cond b (new ≡ mid) (RecordsNow mid new) → Flows l new
   records_flow mid true f k = subst (Flows l) (sym k) f
@@ -260,6 +296,11 @@ module _ (policy : MergePolicy) (s : ℕ) (r : Reply) (l new : Ledger) where
   snaps : (x : Reply) → SnapsBy l x new → Snaps
   snaps (Ok (Answer.number g)) m =
       still Command.snapshot r l new refl (ap (λ (x : Ledger). x.portions) m.rest) (ap (λ (x : Ledger). x.buffered) m.rest) (ap (λ (x : Ledger). x.merging) m.rest)
+      (λ none. inr (record {
+        users = ap (λ (x : Ledger). x.users) m.rest;
+        segment = ap (λ (x : Ledger). x.next_segment) m.rest;
+        generation = ap (λ (x : Ledger). x.next_generation) m.rest;
+      }))
   snaps (Ok (Answer.found f)) m = kept Command.snapshot refl m
   snaps (Ok (Answer.names ns)) m = kept Command.snapshot refl m
   snaps (Ok (Answer.commit_text t)) m = kept Command.snapshot refl m
@@ -270,35 +311,40 @@ module _ (policy : MergePolicy) (s : ℕ) (r : Reply) (l new : Ledger) where
   carries_out Command.formless making m = kept Command.formless refl m.1
   carries_out (Command.put (Ok i)) making m = by_bool (ltb l.count last_number) _ _
       (λ x. writes (Command.put (Ok i)) (Write.put i) (Answer.number (l.count + 1)) refl x.0 (room_flows l x.0 (ltb (length l.buffered) buffer_limit) x.1)
-      (λ is. ap (writes_by (Command.put (Ok i))) is) x.3 x.4)
+      (λ none. absurd (true≢false none)) (λ is. ap (writes_by (Command.put (Ok i))) is) x.3 x.4)
       (λ x. kept (Command.put (Ok i)) refl x.1) m
   carries_out (Command.put (Err e)) making m = kept (Command.put (Err e)) refl m.1
   carries_out (Command.delete (Ok id)) making m = by_bool (ltb l.count last_number) _ _
-      (λ x. writes (Command.delete (Ok id)) (Write.delete id) (Answer.number (l.count + 1)) refl l (same_flows l l refl) (λ is. ap (writes_by (Command.delete (Ok id))) is) x.0 x.1)
+      (λ x. writes (Command.delete (Ok id)) (Write.delete id) (Answer.number (l.count + 1)) refl l (same_flows l l refl)
+      (λ none. inr (files_same l l refl)) (λ is. ap (writes_by (Command.delete (Ok id))) is) x.0 x.1)
       (λ x. kept (Command.delete (Ok id)) refl x.1) m
   carries_out (Command.delete (Err e)) making m = kept (Command.delete (Err e)) refl m.1
   carries_out (Command.delete_where (Ok q)) making m = by_bool (ltb l.count last_number) _ _
       (λ x. writes (Command.delete_where (Ok q)) (Write.delete_where q) (Answer.number (l.count + 1)) refl l (same_flows l l refl)
-      (λ is. ap (writes_by (Command.delete_where (Ok q))) is) x.0 x.1)
+      (λ none. inr (files_same l l refl)) (λ is. ap (writes_by (Command.delete_where (Ok q))) is) x.0 x.1)
       (λ x. kept (Command.delete_where (Ok q)) refl x.1) m
   carries_out (Command.delete_where (Err e)) making m = kept (Command.delete_where (Err e)) refl m.1
   carries_out Command.refresh making m = by_bool (refuses_refresh (state_of l)) _ _ (λ x. refuses Command.refresh Full x.0 x.1)
       (λ x. flows Command.refresh r l new (λ a commit ok. absurd (cc commit))
       (λ a flush ok. records_wait x.0 new (has_recorded x.0.views x.0.count) x.2 ∙ flushes_all l x.0 x.1)
-      (records_flow x.0 (has_recorded x.0.views x.0.count) (flush_flows l x.0 x.1) x.2)) m
+      (records_flow x.0 (has_recorded x.0.views x.0.count) (flush_flows l x.0 x.1) x.2) (λ none. absurd (true≢false none))) m
   carries_out Command.open_newest making m =
       still Command.open_newest r l new refl (ap (λ (y : Ledger). y.portions) m.1) (ap (λ (y : Ledger). y.buffered) m.1) (ap (λ (y : Ledger). y.merging) m.1)
+      (λ none. inr (record { users = ap (λ (y : Ledger). y.users) m.1; segment = ap (λ (y : Ledger). y.next_segment) m.1; generation = ap (λ (y : Ledger). y.next_generation) m.1 }))
   carries_out (Command.open_at t) making m = by_bool (has_recorded l.views t) _ _
-      (λ x. still (Command.open_at t) r l new refl (ap (λ (y : Ledger). y.portions) x.1) (ap (λ (y : Ledger). y.buffered) x.1) (ap (λ (y : Ledger). y.merging) x.1))
+      (λ x. still (Command.open_at t) r l new refl (ap (λ (y : Ledger). y.portions) x.1) (ap (λ (y : Ledger). y.buffered) x.1) (ap (λ (y : Ledger). y.merging) x.1)
+      (λ none. inr (record { users = ap (λ (y : Ledger). y.users) x.1; segment = ap (λ (y : Ledger). y.next_segment) x.1; generation = ap (λ (y : Ledger). y.next_generation) x.1 })))
       (λ x. kept (Command.open_at t) refl x.1) m
   carries_out (Command.close t) making m = by_bool (has_hold l.holds s t) _ _
-      (λ x. still (Command.close t) r l new refl (ap (λ (y : Ledger). y.portions) x.1) (ap (λ (y : Ledger). y.buffered) x.1) (ap (λ (y : Ledger). y.merging) x.1))
+      (λ x. still (Command.close t) r l new refl (ap (λ (y : Ledger). y.portions) x.1) (ap (λ (y : Ledger). y.buffered) x.1) (ap (λ (y : Ledger). y.merging) x.1)
+      (λ none. inr (record { users = ap (λ (y : Ledger). y.users) x.1; segment = ap (λ (y : Ledger). y.next_segment) x.1; generation = ap (λ (y : Ledger). y.next_generation) x.1 })))
       (λ x. kept (Command.close t) refl x.1) m
   carries_out (Command.read t asked) making m = kept (Command.read t asked) refl m.1
   carries_out (Command.files_of_token t) making m = kept (Command.files_of_token t) refl m.1
   carries_out (Command.chore what) making m = by_bool (s == 0) _ _ (λ x. maintains policy s r l new what x.0 making x.1 x.2) (λ x. kept (Command.chore what) refl x.1) m
   carries_out (Command.prune n) making m =
       still (Command.prune n) r l new refl (ap (λ (x : Ledger). x.portions) m.1.rest) (ap (λ (x : Ledger). x.buffered) m.1.rest) (ap (λ (x : Ledger). x.merging) m.1.rest)
+      (λ none. absurd (true≢false none))
   carries_out (Command.commit (Err e)) making m = refuses (Command.commit (Err e)) e m.0 m.1
   carries_out (Command.commit (Ok text)) making m =
       let f = flush_flows l m.0 m.1 in record {
@@ -310,10 +356,12 @@ module _ (policy : MergePolicy) (s : ℕ) (r : Reply) (l new : Ledger) where
         flushed = λ a flush ok. ap (λ (x : Ledger). length x.buffered) m.2.rest ∙ flushes_all l m.0 m.1;
         waits = (let a = ap (λ (x : Ledger). length x.buffered) m.2.rest in let b = f.waits in omega (arith, a, b));
         making = λ other. inr (ap (λ (x : Ledger). x.merging) m.2.rest ∙ f.merging);
+        files = λ none. absurd (true≢false none);
       }
   carries_out Command.snapshot making m = snaps r m.1
   carries_out (Command.release_snapshot g) making m = by_bool (ltb 0 (snapshots_in l.taken g)) _ _
-      (λ x. still (Command.release_snapshot g) r l new refl (ap (λ (y : Ledger). y.portions) x.1.rest) (ap (λ (y : Ledger). y.buffered) x.1.rest) (ap (λ (y : Ledger). y.merging) x.1.rest))
+      (λ x. still (Command.release_snapshot g) r l new refl (ap (λ (y : Ledger). y.portions) x.1.rest) (ap (λ (y : Ledger). y.buffered) x.1.rest) (ap (λ (y : Ledger). y.merging) x.1.rest)
+      (λ none. absurd (true≢false none)))
       (λ x. kept (Command.release_snapshot g) refl x.1) m
   carries_out (Command.files_of_commit g) making m = kept (Command.files_of_commit g) refl m.1
   carries_out (Command.text_of_commit g) making m = kept (Command.text_of_commit g) refl m.1
@@ -339,11 +387,13 @@ left_moves c r l new (e, is) h =
       flushed = λ a flush ok. refused r e a is ok;
       waits = (let x = ap (λ (x : Ledger). length x.buffered) h.rest.rest in let y = ap length b in let z = f.waits in omega (arith, x, y, z));
       making = λ other. inl (e, is);
+      files = λ none. inl (e, is);
     }
 
 none_moves : (c : Command) (r : Reply) (l new : Ledger) → FindsNone l c r new → Moved c r l new
 none_moves (Command.commit (Ok text)) r l new m =
     flows (Command.commit (Ok text)) r l new (λ a commit ok. refused r Spent a m.0 ok) (λ a flush ok. refused r Spent a m.0 ok) (same_flows l new m.2)
+    (λ none. absurd (true≢false none))
 none_moves _ r l new m = absurd m
 
 -- What a call makes of it, whatever it answers.

@@ -31,10 +31,10 @@ abbrev pub flushed_told : (next waiting : ℕ) → SegmentStat
 flushed_told next waiting = record { number = next; rows = waiting; live = waiting }
 
 -- Why the segments change, but for which merge ends. Live rows fall, and nothing else does; or before that one segment more came, of all that
--- waited, under the next number; or some that stood side by side became one or none, as is told.
+-- waited where some did, under the next number; or some that stood side by side became one or none, as is told.
 abbrev pub SegmentsGo : Reply → (old : List SegmentStat) → (next waiting : ℕ) → (new : List SegmentStat) → (after : ℕ) → Type 0
 SegmentsGo r old next waiting new after = (mid : List SegmentStat) × LiveRowsFall mid new × ((mid ≡ old)
-    ⊎ ((mid ≡ old ++ flushed_told next waiting ∷ []) × (after ≡ next + 1))
+    ⊎ ((0 < waiting) × (mid ≡ old ++ flushed_told next waiting ∷ []) × (after ≡ next + 1))
     ⊎ ((front taken made back : List SegmentStat) × (r ≡ Ok (Answer.news News.done)) × (old ≡ front ++ (taken ++ back))
     × (mid ≡ front ++ (made ++ back)) × (0 < length taken) × (length made ≤ 1)))
 
@@ -69,14 +69,15 @@ falls_after w (p ∷ ps) = (refl, refl, fewer w p.live p.records, falls_after w 
 
 -- ---- why segments change
 
--- the segments stay, or one more comes last, of all that waited, under the next number
+-- the segments stay, or one more comes last, of all that waited where some did, under the next number
 abbrev pub SegmentsFlow : (old : List SegmentStat) → (next waiting : ℕ) → (new : List SegmentStat) → (after : ℕ) → Type 0
-SegmentsFlow old next waiting new after = (new ≡ old) ⊎ ((new ≡ old ++ flushed_told next waiting ∷ []) × (after ≡ next + 1))
+SegmentsFlow old next waiting new after =
+    (new ≡ old) ⊎ ((0 < waiting) × (new ≡ old ++ flushed_told next waiting ∷ []) × (after ≡ next + 1))
 
 -- and behind that live rows fall, and the number stays taken
 pub flow_goes : (r : Reply) (old mid new : List SegmentStat) (next waiting taken after : ℕ) → SegmentsFlow old next waiting mid taken
     → (taken ≡ next + 1 → after ≡ next + 1) → LiveRowsFall mid new → SegmentsGo r old next waiting new after
-flow_goes r old mid new next waiting taken after flow stays falls = (mid, falls, elim flow [ inl same ↦ inl same | inr more ↦ inr (inl (more.0, stays more.1)) ])
+flow_goes r old mid new next waiting taken after flow stays falls = (mid, falls, elim flow [ inl same ↦ inl same | inr more ↦ inr (inl (more.0, more.1, stays more.2)) ])
 
 -- ---- a flush
 

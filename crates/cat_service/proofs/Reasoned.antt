@@ -1,6 +1,7 @@
 -- Each reply has its cause in how the world stands before its line.
 use Rattle.std.proofs.Common.{◌≡◌, ◌≢◌, ℕ, ◌+◌, ◌<◌, ◌≤◌, List, [], ◌∷◌, length, map, sum, Bool, true, false, true≢false, cond, refl, sym, ◌∙◌, ap, subst, arith, inl, inr}
-use Rattle.std.specs.Prelude.{◌⊎◌, Option, None, Some, Result, Ok, Err, IsTrue, option_map}
+use Rattle.std.specs.Prelude.{◌⊎◌, ◌==◌, count_by, Option, None, Some, IfSome, Result, Ok, Err, IsTrue, option_map}
+use Rattle.std.specs.List.{AllByRecursion, flat_map}
 use Rattle.std.proofs.lemmas.List.{length-append, length-map}
 use Rattle.cat_base.specs.declared.refusal.Refusal.{Refusal}
 use Rattle.cat_base.specs.declared.refusal.Refusal.TheVariants.{Damaged, Device, Id, Memory, Spent}
@@ -27,21 +28,23 @@ use Rattle.cat_commands.specs.cat_ledger.upkeep.Due.{IsMergeDue}
 use Rattle.cat_commands.specs.ledger.Chores.{pending_in, segment_told, stat_in}
 use Rattle.cat_ledger_laws.specs.lines.PlanLaws.{live_sets_in, sizes_in}
 use Rattle.cat_ledger_laws.specs.lines.RunLaws.{ReplyLike, IsShown, Stands}
-use Rattle.cat_ledger_laws.specs.model.Ledger.{Ledger, table_of, view_shown}
+use Rattle.cat_ledger_laws.specs.model.Ledger.{IsLedger, IsPast, Ledger, names_of_commit, names_of_merging, names_of_portion, names_of_view, table_of, view_shown}
 use Rattle.cat_ledger_laws.specs.model.Plans.{MayBeForced, MergePolicy}
 use Rattle.cat_ledger_laws.specs.model.Portions.{ArePortions, Merging, records_of}
+use Rattle.cat_ledger_laws.specs.model.Users.{Used}
 use Rattle.cat_ledger_laws.specs.shape.Shapes.{MergingShape, Shape, merging_shape, recorded_view, shape_of as shape_of_ledger}
 use Rattle.cat_ledger_laws.specs.shape.Ties.{ToldFiles}
 use Rattle.cat_service.proofs.Gets.{damaged_get}
+use Rattle.cat_ledger_laws.proofs.model.Users.{All-four}
 use Rattle.cat_ledger_laws.proofs.shape.MergeShapes.{many_shown}
 use Rattle.cat_service.proofs.Lacking.{no_input_lacks}
 use Rattle.cat_service.proofs.Making.{KeepsMaking, Moves, SegmentsStand, is_merge, ledger_standing, merge_moves, merge_told, segments_stand, standing_over}
-use Rattle.cat_service.proofs.Moved.{Moved, calls_move, commits, flushes, writes_by}
+use Rattle.cat_service.proofs.Moved.{FilesStay, Moved, calls_move, commits, flushes, writes_by}
 use Rattle.cat_service.proofs.Portioned.{SegmentsGo, leaves_told, live_told, portions_told}
-use Rattle.cat_service.specs.Causes.{IsCountedTo, IsDamagedTo, IsSpentTo, SweepsSo, TakesNumbers, TellsSo}
+use Rattle.cat_service.specs.Causes.{HasFewPending, IsCountedTo, IsDamagedTo, IsSpentTo, SweepsSo, TakesNumbers, TellsSo, may_move}
 use Rattle.cat_service.specs.Lines.{IsCommandOf}
 use Rattle.cat_service.specs.Reasons.{IsCausedBy, progress_of, standing_of_service}
-use Rattle.cat_model.specs.Standings.{Cache, CacheMoves, HasNoRoom, HasReason, IsDamagedFor, IsSpentFor, IsToForce, IsToldOf, IsToMerge, MergeMoves, MovesOn, Progress, Standing, segment_rows}
+use Rattle.cat_model.specs.Standings.{Cache, CacheMoves, HasNoRoom, HasReason, IsDamagedFor, IsSpentFor, IsToForce, IsToldOf, IsToMerge, MergeMoves, MovesOn, Progress, Standing, moves_files, segment_rows}
 use Rattle.cat_service.specs.Worlds.{Service, device_of, policy_of, shape_of_service}
 
 -- ---- replies that are alike
@@ -396,6 +399,10 @@ sources_move c l new a b m = record {
     | inl refused ↦ absurd (let no : ◌≡◌ {A = Reply} (Ok (Answer.found (Found.source (Some a)))) (Err refused.0) = refused.1 in cc)
     | inr same ↦ inr same
   ];
+  files = λ none. elim (m.files none) [
+    | inl refused ↦ absurd (let no : ◌≡◌ {A = Reply} (Ok (Answer.found (Found.source (Some a)))) (Err refused.0) = refused.1 in cc)
+    | inr same ↦ inr same
+  ];
 }
 
 -- and of the merge in the making
@@ -444,6 +451,70 @@ items_told l s is whole =
     let b = ap (λ (xs : List SegmentStat). sum (map (λ (x : SegmentStat). x.live) xs)) (shapes_told l s is) in
     let d = live_told l.portions whole.lengths in
     let e = length-append (records_of l.portions) l.buffered in omega (arith, a, b, d, e)
+
+-- a merge in the making has a number that was given out
+making_below : (l : Ledger) → IsLedger l → IfSome (merge_told l.merging) (λ (m : ℕ × Progress). m.0 < l.next_segment)
+making_below l sound =
+    by l.merging (All-four (IsPast l.next_segment l.next_generation) (flat_map names_of_portion l.portions) (flat_map names_of_view l.views)
+    (flat_map names_of_commit l.commits) (names_of_merging l.merging) sound.fresh).merging
+  where
+    by : (o : Option Merging) → AllByRecursion (IsPast l.next_segment l.next_generation) (names_of_merging o)
+        → IfSome (merge_told o) (λ (m : ℕ × Progress). m.0 < l.next_segment)
+    by None h = tt
+    by (Some m) h = h.0.1
+
+shape_below : (l : Ledger) (s : Shape) → shape_of_ledger l ≡ s → IsLedger l → IfSome (option_map progress_of s.merging) (λ (m : ℕ × Progress). m.0 < s.next_segment)
+shape_below l s is sound =
+    subst (λ n. IfSome (option_map progress_of s.merging) (λ (m : ℕ × Progress). m.0 < n)) (ap (λ (x : Shape). x.next_segment) is)
+    (subst (λ o. IfSome o (λ (m : ℕ × Progress). m.0 < l.next_segment)) (making_told l s is) (making_below l sound))
+
+-- ---- lines that move no file
+
+-- the numbers that come next are as they were, and as many files wait to be deleted
+abbrev pub FilesStand : Shape → Shape → Type 0
+FilesStand s new = (new.next_segment ≡ s.next_segment) × (new.next_generation ≡ s.next_generation) × (pending_in new ≡ pending_in s)
+
+files_unchanged : (s new : Shape) → new ≡ s → FilesStand s new
+files_unchanged s new k = (ap (λ (x : Shape). x.next_segment) k, ap (λ (x : Shape). x.next_generation) k, ap pending_in k)
+
+files_stay : (l l' : Ledger) (s new : Shape) → shape_of_ledger l ≡ s → shape_of_ledger l' ≡ new → FilesStay l l' → FilesStand s new
+files_stay l l' s new is is' k = (
+  sym (ap (λ (x : Shape). x.next_segment) is') ∙ k.segment ∙ ap (λ (x : Shape). x.next_segment) is,
+  sym (ap (λ (x : Shape). x.next_generation) is') ∙ k.generation ∙ ap (λ (x : Shape). x.next_generation) is,
+  sym (ap pending_in is') ∙ ap (λ us. count_by (λ (u : Used). u.users == 0) us) k.users ∙ ap pending_in is,
+)
+
+-- the command moves files, or doesn't, as what is said does
+says_still : (schema : Schema) (said : Option Said) (c : Command) → IsCommandOf schema said c → moves_files c ≡ false → may_move said ≡ false
+says_still schema said c is none = by said is
+  where
+    moves : {M : Type 0} (d : Command) → c ≡ d → moves_files d ≡ true → M
+    moves d is true_of = absurd (true≢false (sym true_of ∙ ap moves_files (sym is) ∙ none))
+
+    by : (said : Option Said) → IsCommandOf schema said c → may_move said ≡ false
+    by None is = refl
+    by (Some (Said.put text)) is = moves _ is refl
+    by (Some (Said.delete text)) is = refl
+    by (Some (Said.delete_where text)) is = refl
+    by (Some Said.refresh) is = moves _ is refl
+    by (Some Said.open_newest) is = refl
+    by (Some (Said.open_at t)) is = refl
+    by (Some (Said.close t)) is = refl
+    by (Some (Said.find t n sort mark text)) is = refl
+    by (Some (Said.facets t dim n text)) is = refl
+    by (Some (Said.get t text)) is = refl
+    by (Some (Said.files_of_token t)) is = refl
+    by (Some (Said.files_of_commit g)) is = refl
+    by (Some (Said.commit text)) is = moves _ is refl
+    by (Some (Said.text_of_commit g)) is = refl
+    by (Some Said.snapshot) is = refl
+    by (Some (Said.release_snapshot g)) is = moves _ is refl
+    by (Some (Said.prune n)) is = moves _ is refl
+    by (Some (Said.chore Chore.merge)) is = moves _ is refl
+    by (Some (Said.chore Chore.force)) is = moves _ is refl
+    by (Some (Said.chore Chore.warm)) is = refl
+    by (Some (Said.chore Chore.sweep)) is = moves _ is refl
+    by (Some (Said.chore Chore.stat)) is = refl
 
 flushes_of : (c : Command) (text : Result Text Refusal) → (c ≡ Command.refresh) ⊎ (c ≡ Command.commit text) → flushes c ≡ true
 flushes_of c text (inl is) = ap flushes is
@@ -550,10 +621,11 @@ module _ {D : Type 0} (bytes : D → ToldFiles) (can_fail : D → Type 0) (fault
 
   -- what a call made of a ledger is made of the standing that memory has of it
   moves_on : (old new : Service D) (c : Command) (r : Reply) (l l' : Ledger) → shape_of_ledger l ≡ shape_of_service old → shape_of_ledger l' ≡ shape_of_service new
-      → TakesNumbers (shape_of_service old) (shape_of_service new) → faults (device_of old) ≤ faults (device_of new) → Moved c r l l' → StandOn old new r → Sweeps new c r → Tries tried after old new c r
+      → TakesNumbers (shape_of_service old) (shape_of_service new) → HasFewPending (shape_of_service old) → faults (device_of old) ≤ faults (device_of new) → Moved c r l l' → StandOn old new r → Sweeps new c r → Tries tried after old new c r
+      → (moves_files c ≡ false → FilesStand (shape_of_service old) (shape_of_service new)) → IsLedger l'
       → CacheMoves (standing_of_service faults cache tried old) c r (standing_of_service faults made after new)
       → MovesOn (standing_of_service faults cache tried old) c r (standing_of_service faults made after new)
-  moves_on old new c r l l' is is' numbers rises m stand swept tries cached = record {
+  moves_on old new c r l l' is is' numbers few rises m stand swept tries still sound cached = record {
     segment = numbers.segment;
     generation = numbers.generation;
     taken = λ text a is_commit ok.
@@ -566,6 +638,9 @@ module _ {D : Type 0} (bytes : D → ToldFiles) (can_fail : D → Type 0) (fault
         let h = m.waits in omega (arith, a, b, h));
     cache = cached;
     swept = swept;
+    still = still;
+    few = few;
+    making = shape_below l' (shape_of_service new) is' sound;
     failures = rises;
     tried = tries;
   }
@@ -584,7 +659,7 @@ module _ {D : Type 0} (bytes : D → ToldFiles) (can_fail : D → Type 0) (fault
       → CacheMoves (standing_of_service faults cache tried old) e.line.command fitting (standing_of_service faults made after new)
       → HasReason (AlwaysTells bytes) (policy_of old).factor (policy_of old).least from past (standing_of_service faults cache tried old)
       (record { line = e.line; reply = fitting }) (standing_of_service faults made after new)
-  reasoned from past old new e fitting stands fits shown (said, is, cause, numbers, answers, same, sets) tries counts cached =
+  reasoned from past old new e fitting stands fits shown (said, is, cause, numbers, answers, same, sets, few) tries counts cached =
       let c = e.line.command in
       let schema = (shape_of_service old).schema in
       let l = stands.ledger in
@@ -626,9 +701,14 @@ module _ {D : Type 0} (bytes : D → ToldFiles) (can_fail : D → Type 0) (fault
             let f = ap (λ (vs : List RecordedTable). length vs) stands.stands.shows.views_now in
             let g = length-map (view_tokens from.start past) (table_recorded from.start past) in omega (arith, a, b, d, f, g));
         moves =
-            moves_on old new c fitting l answered.0 stands.carries.shape answered.5.shape numbers cause.rises fit_moved
+            moves_on old new c fitting l answered.0 stands.carries.shape answered.5.shape numbers few cause.rises fit_moved
             ((alike_on (StandOn old new) (λ a b h. h) e.reply fitting shown.alike).0 ((alike_on (StandOn old new) (λ a b h. h) e.reply answered.2 answered.3.alike).1 stand))
             ((alike_on (Sweeps new c) (λ a b h x sweeps ok. h (Answer.found (Found.source (Some a))) sweeps refl) e.reply fitting shown.alike).0
             (swept_for old new schema said c e.reply is cause.swept))
-            ((alike_on (Tries tried after old new c) (λ a b h. sources_try c old new a b h) e.reply fitting shown.alike).0 tries) cached;
+            ((alike_on (Tries tried after old new c) (λ a b h. sources_try c old new a b h) e.reply fitting shown.alike).0 tries)
+            (λ none. elim (moved.files none) [
+              | inl refused ↦ files_unchanged (shape_of_service old) (shape_of_service new)
+                  (cause.still refused.0 (refused_alike refused.0 e.reply answered.2 answered.3.alike refused.1) (says_still schema said c is none))
+              | inr same ↦ files_stay l answered.0 (shape_of_service old) (shape_of_service new) stands.carries.shape answered.5.shape same
+            ]) answered.5.sound cached;
       }

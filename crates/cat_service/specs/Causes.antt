@@ -1,5 +1,5 @@
 -- Why a line is refused where an OK would fit, and what COMMIT and maintenance tell, by what memory has.
-use Rattle.std.specs.Prelude.{◌≡◌, ◌≢◌, ◌⊎◌, ℕ, ◌<◌, ◌≤◌, Option, Some, Ok, Err, IfErr, length}
+use Rattle.std.specs.Prelude.{◌≡◌, ◌≢◌, ◌⊎◌, ℕ, ◌+◌, ◌*◌, ◌<◌, ◌≤◌, Bool, true, false, Option, Some, Ok, Err, IfErr, length}
 use Rattle.cat_base.specs.declared.refusal.Refusal.{Refusal}
 use Rattle.cat_base.specs.declared.refusal.Refusal.TheVariants.{Damaged, Device, Memory, Spent}
 use Rattle.cat_model.specs.Heard.{commit_text_of}
@@ -112,11 +112,24 @@ KeepsIfRefused (Some (Said.chore Chore.merge)) (Err e) s new = KeepsSegments s n
 KeepsIfRefused (Some (Said.chore Chore.force)) (Err e) s new = KeepsMerge s new × KeepsSegments s new
 KeepsIfRefused said reply s new = Unit {0}
 
+-- a line that says so may begin a file, or let one go
+abbrev pub may_move : Option Said → Bool
+may_move (Some (Said.put text)) = true
+may_move (Some Said.refresh) = true
+may_move (Some (Said.commit text)) = true
+may_move (Some (Said.release_snapshot g)) = true
+may_move (Some (Said.prune n)) = true
+may_move (Some (Said.chore Chore.merge)) = true
+may_move (Some (Said.chore Chore.force)) = true
+may_move (Some (Said.chore Chore.sweep)) = true
+may_move said = false
+
 -- The reply has its cause in the world: 16 where a number or a limit is spent, 30 where the device can fail and its count of failures rose, 31
 -- where a file is damaged, 40 where no failure was counted, and to a GET and to a MERGE where no file is gone or short that they read, and the
 -- news as they are. Behind a SWEEP with an OK what waited is gone. No failure is forgotten, whatever is told; a COMMIT that is refused for its
--- text changes nothing; what another refused line keeps is kept; and no refused line but a MERGE ends the merge in the making. The first three arguments say what a device tells of its files, whether
--- it can fail, and how many failures it has counted.
+-- text changes nothing; what another refused line keeps is kept; no refused line but a MERGE ends the merge in the making; and one that moves
+-- no file leaves all that memory has of the ledger. The first three arguments say what a device tells of its files, whether it can fail, and how
+-- many failures it has counted.
 pub record HasCause {D : Type 0} (bytes : D → ToldFiles) (can_fail : D → Type 0) (faults : D → ℕ) (old : Service D) (said : Option Said)
     (reply : Reply) (new : Service D) : Type 0 where
   pub spent : reply ≡ Err Spent → IsSpentTo (policy_of old) (shape_of_service old) said
@@ -131,8 +144,13 @@ pub record HasCause {D : Type 0} (bytes : D → ToldFiles) (can_fail : D → Typ
   pub stays : StaysIfWrong said old.ledger new.ledger
   pub keeps : KeepsIfRefused said reply (shape_of_service old) (shape_of_service new)
   pub making : (e : Refusal) → reply ≡ Err e → said ≢ Some (Said.chore Chore.merge) → (shape_of_service new).merging ≡ (shape_of_service old).merging
+  pub still : (e : Refusal) → reply ≡ Err e → may_move said ≡ false → shape_of_service new ≡ shape_of_service old
 
 -- a line takes the number of one segment at most, and one generation
 pub record TakesNumbers (old new : Shape) : Type 0 where
   pub segment : IsOneMoreAtMost old.next_segment new.next_segment
   pub generation : IsOneMoreAtMost old.next_generation new.next_generation
+
+-- no more files wait to be deleted than the numbers name that were given out: two a segment, one a generation and one for each pair
+abbrev pub HasFewPending : Shape → Type 0
+HasFewPending s = pending_in s + 2 ≤ s.next_segment * (s.next_generation + 1)

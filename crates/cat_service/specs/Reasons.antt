@@ -13,7 +13,7 @@ use Rattle.cat_ledger_laws.specs.shape.Shapes.{MergingShape}
 use Rattle.cat_ledger_laws.specs.shape.Ties.{ToldFiles}
 use Rattle.cat_commands.specs.cat_protocol.declared.serving.machine.Unopened.{Unopened}
 use Rattle.cat_service.specs.Cached.{MakesOfSets}
-use Rattle.cat_service.specs.Causes.{HasCause, TakesNumbers}
+use Rattle.cat_service.specs.Causes.{HasCause, HasFewPending, TakesNumbers}
 use Rattle.cat_service.specs.Lines.{IsCommandOf}
 use Rattle.cat_service.specs.Serving.{OpensIfShort, StepsIfShort}
 use Rattle.cat_model.specs.Standings.{Cache, Progress, Standing}
@@ -56,15 +56,15 @@ OpensCaused bytes may_leave can_fail faults device (Some line) r =
     × IfOk r (λ w. OpensSo bytes can_fail faults device line w × (w.sets ≡ record { cached = []; noted = []; warming = None }))
     × IfErr r (λ u. CountsRefusal (can_fail device) (faults device) (faults u.seed) u.refusal)
 
--- What a line said, which is its command, has its cause in the world before it, and made what it does of the cached sets; and the command was
--- answered.
+-- What a line said, which is its command, has its cause in the world before it, in which few files wait to be deleted, and made what it does of
+-- the cached sets; and the command was answered.
 abbrev pub IsCausedBy : {D : Type 0} → (D → ToldFiles) → (D → Type 0) → (D → ℕ) → Service D → Outcome → Service D → Type 0
 IsCausedBy bytes can_fail faults old Outcome.unreadable new = Unit {0}
 IsCausedBy bytes can_fail faults old (Outcome.replied e) new =
     (said : Option Said) × IsCommandOf (shape_of_service old).schema said e.line.command × HasCause bytes can_fail faults old said e.reply new
     × TakesNumbers (shape_of_service old) (shape_of_service new)
     × AnswersCarried (policy_of old) (bytes (device_of old)) (shape_of_service old) e.line e.reply (bytes (device_of new)) (shape_of_service new)
-    × (policy_of new ≡ policy_of old) × MakesOfSets e.line.session said old e.reply new
+    × (policy_of new ≡ policy_of old) × MakesOfSets e.line.session said old e.reply new × HasFewPending (shape_of_service old)
 
 -- a line, which may be too long, is heard and changes the world, and what it is told has its cause
 abbrev pub StepsCaused : {D : Type 0} → (D → ToldFiles) → (D → FileName → FileContent → Type 0) → (D → Type 0) → (D → ℕ) → Service D → Option Text

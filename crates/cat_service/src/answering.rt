@@ -1,7 +1,6 @@
 //! Lines, answered one after another.
 ghost use Rattle.std.specs.Prelude.{◌≡◌};
 ghost use Rattle.cat_model.specs.Served.{NamesFiles};
-ghost use Rattle.cat_commands.specs.cat_ledger.Answering.{number_reply};
 ghost use Rattle.cat_commands.specs.cat_ledger.Histories.{GoesBy};
 ghost use Rattle.cat_commands.specs.cat_protocol.lines.Line.{said_of};
 ghost use Rattle.cat_commands.specs.cat_protocol.replies.Reply.{reply_of};
@@ -17,28 +16,8 @@ use crate::world::World;
 use cat_base::Refusal;
 use cat_commands::cat_protocol::lines::{Command, Line};
 use cat_commands::cat_protocol::replies::{Answer, Reply};
-use cat_commands::ledger::Chore;
+use cat_commands::ledger::{Chore, left_told, number_told};
 use cat_directory::{Directory, Shelf};
-
-/// What a call of the ledger is answered that tells a number.
-fn number_told(number: Result<u64, Refusal>) -> Result<Answer, Refusal>
-    ensures { reply_of result ≡ number_reply number }
-{
-    match number {
-        Ok(number) => Ok(Answer::Number(number)),
-        Err(refusal) => Err(refusal),
-    }
-}
-
-/// So of how many snapshots of a commit are left.
-fn left_told(left: Result<u32, Refusal>) -> Result<Answer, Refusal>
-    ensures { reply_of result ≡ number_reply left }
-{
-    match left {
-        Ok(left) => Ok(Answer::Number(left as u64)),
-        Err(refusal) => Err(refusal),
-    }
-}
 
 impl<D: Directory + Shelf> World<D> {
     /// Answers a line, whose session stands in the reply.

@@ -50,6 +50,8 @@ impl<D: Directory + Shelf> Machine for World<D> {
         };
         match Line::read(text) {
             Ok(line) => {
+                // What the line finds: as few files wait to be deleted as may.
+                self.newest_lasts();
                 let reply = self.step(&line);
                 send_reply(&reply, to)
             }

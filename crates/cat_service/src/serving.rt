@@ -64,11 +64,13 @@ fn device_left<D: Directory + Shelf>(stage: Stage<World<D>, D>) -> D
 /// That a file is damaged is told, where such directories always tell of their files, to no MERGE, and to a GET only where
 /// the text has a line feed; else to a MERGE only where it has rows to copy. A COMMIT tells the generation that comes next,
 /// and takes it; SWEEP, STAT, MERGE, FORCE and WARM tell what is so, and behind a SWEEP with an OK no file waits to be deleted.
-/// A STAT tells as many waiting items and live rows as the table has items, and how many sets of rows are cached; a WARM tells
+/// A STAT tells as many waiting items and live rows as the table has items, how many sets of rows are cached, and no more files
+/// that wait to be deleted than were given a number; only a line that may begin or give up a file changes that. A WARM tells
 /// `idle` only where each noted query has its set in each segment, and else which step it took. A merge is begun only where none
 /// is in the making, each `copied` tells more of its rows, and `done` is told once all are passed: then one segment at most
-/// stands for those that it took, and no line else takes any. A COMMIT that is refused, but not for its text, takes the generation that it tried, so that no later line is told it: where such directories always tell
-/// of their files, whatever commit a crash leaves as the newest is the last that was answered or opened, or was tried so.
+/// stands for those that it took, and no line else takes any. A COMMIT that is refused, but not for its text, takes the
+/// generation that it tried, so that no later line is told it: where such directories always tell of their files, whatever
+/// commit a crash leaves as the newest is the last that was answered or opened, or was tried so.
 ///
 /// It flushes before each read, so that a client which waits for a reply has it. Its two buffers are taken before the first
 /// line is read, and replies are written without taking memory. The reader is called at most 4,294,967,295 times.

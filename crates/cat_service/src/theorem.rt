@@ -73,12 +73,10 @@ pub fn missing_sets_are_told<D: Directory + Shelf>()
 /// - *begun*: no merge is begun, by a MERGE or a FORCE, while one is in the making: one that was begun is told `done` first, or a MERGE
 ///   is refused, which may have given it up.
 /// - *passed*: where a STAT before `begun` tells of segments that each have rows, no `done` comes before a `copied`.
-/// - *made*: where the call's first merge, of such segments, is told `done`, others stand than before: if STATs before `begun` and
-///   before `done` tell of the same segments, and the second one that nothing waits, one behind `done` tells of others.
+/// - *made*: where a merge of such segments is told `done`, others stand than before: if STATs before `begun` and
+///   before `done` tell of the same segments, one behind `done` tells of others.
 ///
-/// So a service that tells `begun` or `copied` each time, or that merges nothing and tells `done`, has no causes for it. *Made* asks
-/// that nothing waits, since what waits may become a segment behind any line; and of later merges of a call it isn't said, as a
-/// merge that is begun needn't take its number from those that come next.
+/// So a service that tells `begun` or `copied` each time, or that merges nothing and tells `done`, has no causes for it.
 ///
 /// The news of MERGE are our own; Lucene merges in threads of its own, by a `ConcurrentMergeScheduler`, and tells nobody how far.
 pub fn merges_go_on<D: Directory + Shelf>()

@@ -1,5 +1,6 @@
 //! The world: a ledger, and what is kept beside it so that it needn't be made anew.
 ghost use Rattle.std.specs.Prelude.{◌≡◌};
+ghost use Rattle.cat_service.specs.Causes.{HasFewPending};
 ghost use Rattle.cat_service.specs.Promises.{WorldLasts};
 ghost use Rattle.cat_service.specs.Worlds.{device_of, shape_of_service};
 
@@ -67,11 +68,13 @@ impl<D: Directory + Shelf> World<D> {
     }
 
     /// What always holds of it, for a caller's proof; it does nothing. A crash at this moment leaves each file of the newest
-    /// commit byte for byte as the directory tells of it, where such directories always tell of their files.
+    /// commit byte for byte as the directory tells of it, where such directories always tell of their files. And no more files
+    /// wait to be deleted than the numbers name that were given out.
     ///
     /// Lucene's `IndexWriter.commit`, whose changes survive a crash of the system.
     pub fn newest_lasts(&self)
-        ensures { WorldLasts D.bytes D.may_leave self.now }
+        ensures lasts { WorldLasts D.bytes D.may_leave self.now }
+        ensures few { HasFewPending (shape_of_service self.now) }
     {
         self.ledger.newest_lasts();
     }

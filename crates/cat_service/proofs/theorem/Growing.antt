@@ -1,9 +1,10 @@
 -- How segments grow from one line to the next, as a standing tells of them.
 use Rattle.std.proofs.Common.{zero, suc, ◌≡◌, ℕ, ◌+◌, ◌<◌, ◌≤◌, List, [], ◌∷◌, ◌++◌, refl, sym, ◌∙◌, ap, subst, arith, inl, inr}
-use Rattle.std.specs.Prelude.{◌⊎◌, Contains, Ok}
+use Rattle.std.specs.Prelude.{◌⊎◌, Contains, Option, IfSome, Ok}
 use Rattle.std.specs.List.{AllByRecursion}
+use Rattle.std.proofs.lemmas.List.Elements.{recursion_from_All}
 use Rattle.cat_model.specs.Run.{Answer, Exchange, News, Reply, Run, SegmentStat}
-use Rattle.cat_model.specs.Standings.{HasReason, LiveRowsFall, SegmentsMove, Standing}
+use Rattle.cat_model.specs.Standings.{HasReason, LiveRowsFall, Progress, SegmentsMove, Standing}
 use Rattle.cat_model.specs.Table.{Opened}
 
 -- the numbers of all lie below one, or none does
@@ -80,6 +81,43 @@ below_step s new step all = elim step.is [
       (subst (AllBelow (s.next_segment + 1)) (sym one.2) (below_added s.next_segment s.stat.segments one.0 one.1 all))
 ]
 
+-- of what stands in a row, each part
+pub below_parts : (n : ℕ) (xs ys : List SegmentStat) → AllBelow n (xs ++ ys) → AllBelow n xs × AllBelow n ys
+below_parts n [] ys all = (tt, all)
+below_parts n (x ∷ xs) ys all = let h = below_parts n xs ys all.1 in ((all.0, h.0), h.1)
+
+below_joined : (n : ℕ) (xs ys : List SegmentStat) → AllBelow n xs → AllBelow n ys → AllBelow n (xs ++ ys)
+below_joined n [] ys low more = more
+below_joined n (x ∷ xs) ys low more = (low.0, below_joined n xs ys low.1 more)
+
+below_made : (n : ℕ) (m : ℕ × Progress) (made : List SegmentStat) → m.0 < n
+    → AllByRecursion (λ (x : SegmentStat). (x.number ≡ m.0) × (x.rows ≤ m.1.rows)) made → AllBelow n made
+below_made n m [] low all = tt
+below_made n m (x ∷ made) low all = ((let e = all.0.0 in omega (arith, e, low)), below_made n m made low all.1)
+
+-- the numbers of all segments that stand, and of the merge in the making, are below the next one
+abbrev pub NumbersAreLow : Standing → Type 0
+NumbersAreLow s = AllBelow s.next_segment s.stat.segments × IfSome s.merging (λ m. m.0 < s.next_segment)
+
+below_more : (n m : ℕ) (xs : List SegmentStat) → n ≤ m → AllBelow n xs → AllBelow m xs
+below_more n m [] more all = tt
+below_more n m (x ∷ xs) more all = ((let b = all.0 in omega (arith, b, more)), below_more n m xs more all.1)
+
+low_moves : (s : Standing) (r : Reply) (mid : List SegmentStat) (next : ℕ) → NumbersAreLow s → s.next_segment ≤ next → SegmentsMove s r mid next → AllBelow next mid
+low_moves s (Ok (Answer.news News.done)) mid next low more (m, front, taken, made, back, is, was, new, some, rows, few, so) =
+    let n = s.next_segment in
+    let old = below_parts n front (taken ++ back) (subst (AllBelow n) was low.0) in
+    let number : m.0 < n = subst (λ (o : Option (ℕ × Progress)). IfSome o (λ k. k.0 < n)) is low.1 in
+    let all = below_made n m made number (recursion_from_All (λ (x : SegmentStat). (x.number ≡ m.0) × (x.rows ≤ m.1.rows)) made so) in
+    below_more n next mid more (subst (AllBelow n) (sym new) (below_joined n front (made ++ back) old.0 (below_joined n made back all (below_parts n taken back old.1).1)))
+low_moves s _ mid next low more h = elim h [
+  | inl same ↦ subst (AllBelow next) (sym same) (below_more s.next_segment next s.stat.segments more low.0)
+  | inr one ↦
+      let x : SegmentStat = record { number = s.next_segment; rows = s.stat.buffered; live = s.stat.buffered } in
+      subst (AllBelow next) (sym one.1)
+      (below_more (s.next_segment + 1) next (s.stat.segments ++ x ∷ []) (let e = one.2 in omega (arith, e)) (below_added s.next_segment s.stat.segments x refl low.0))
+]
+
 pub in_one : {X : Type 0} (x y : X) → Contains (x ∷ []) y → x ≡ y
 in_one x y (zero, within, is) = is
 in_one x y (suc k, within, is) = absurd (omega (arith, within))
@@ -88,7 +126,8 @@ module _ (always : Type 0) (factor least : ℕ) (from : Opened) where
   -- told anything but `done`, the segments stay, or one more comes last
   undone_moves : (s : Standing) (r : Reply) (mid : List SegmentStat) (next : ℕ) → (r ≡ Ok (Answer.news News.done) → ⊥) → SegmentsMove s r mid next
       → (mid ≡ s.stat.segments)
-      ⊎ ((mid ≡ s.stat.segments ++ record { number = s.next_segment; rows = s.stat.buffered; live = s.stat.buffered } ∷ []) × (next ≡ s.next_segment + 1))
+      ⊎ ((0 < s.stat.buffered) × (mid ≡ s.stat.segments ++ record { number = s.next_segment; rows = s.stat.buffered; live = s.stat.buffered } ∷ [])
+      × (next ≡ s.next_segment + 1))
   undone_moves s (Ok (Answer.news News.done)) mid next undone h = absurd (undone refl)
   undone_moves s _ mid next undone h = h
 
@@ -98,7 +137,16 @@ module _ (always : Type 0) (factor least : ℕ) (from : Opened) where
     falls = h.moves.segments.1;
     is = elim (undone_moves s e.reply h.moves.segments.0 new.next_segment undone h.moves.segments.2) [
       | inl same ↦ inl same
-      | inr one ↦ inr (record { number = s.next_segment; rows = s.stat.buffered; live = s.stat.buffered }, refl, one.0, one.1, refl)
+      | inr one ↦ inr (record { number = s.next_segment; rows = s.stat.buffered; live = s.stat.buffered }, refl, one.1, one.2, refl)
     ];
     next = h.moves.segment.0;
   }
+
+  -- numbers stay low, whatever is told
+  pub low_behind : (past : Run) (s : Standing) (e : Exchange) (new : Standing) → HasReason always factor least from past s e new → NumbersAreLow s → NumbersAreLow new
+  low_behind past s e new h low =
+      let m = h.moves.segments in
+      let next = new.next_segment in (
+        below_fall next next m.0 new.stat.segments (omega arith) m.1 (low_moves s e.reply m.0 next low h.moves.segment.0 m.2),
+        h.moves.making,
+      )

@@ -1,9 +1,9 @@
 -- What merges are told, by the causes of replies.
 use Rattle.std.proofs.Common.{zero, suc, ◌≡◌, ℕ, ◌+◌, ◌<◌, ◌≤◌, List, [], ◌∷◌, ◌++◌, Bool, true, false, true≢false, length, map, take, drop, sum, refl, sym, ◌∙◌, ap, subst, arith, inl, inr}
-use Rattle.std.specs.Prelude.{◌⊎◌, Contains, None, Option, Some, Ok, Err, filter_map, count_by}
+use Rattle.std.specs.Prelude.{◌⊎◌, None, Option, Some, IfSome, Ok, Err, filter_map, count_by}
 use Rattle.std.specs.List.{AllByRecursion}
 use Rattle.std.proofs.lemmas.List.{length-append, length-map, map-append}
-use Rattle.std.proofs.lemmas.List.Elements.{Contains-append_cases, Contains-append_right, recursion_from_All}
+use Rattle.std.proofs.lemmas.List.Elements.{recursion_from_All}
 use Rattle.std.proofs.lemmas.List.Sums.{sum_by-cons}
 use Rattle.cat_model.specs.CommitFile.{IsListed, ListedSegment}
 use Rattle.cat_model.specs.Files.{Name}
@@ -19,8 +19,8 @@ use Rattle.cat_model.specs.Text.{Text}
 use Rattle.cat_model.specs.Told.{DirectoryKind, MayHave, TellsAlways}
 use Rattle.cat_model.specs.View.{Leaf}
 use Rattle.cat_model.specs.Window.{IsWindow}
-use Rattle.cat_service.proofs.theorem.Growing.{AllBelow, AllFrom, Steps, apart, below_found, below_step, in_one, steps}
-use Rattle.cat_service.specs.theorem.Merges.{HasRows, Is, MergesGoOn, NoneIs, TellsMerges, begins_merge, ends_merge, is_told_done, merge_was_told, numbers_in, passes_rows, stat_was_told}
+use Rattle.cat_service.proofs.theorem.Growing.{AllBelow, AllFrom, NumbersAreLow, Steps, below_parts, low_behind, steps}
+use Rattle.cat_service.specs.theorem.Merges.{HasRows, Is, MergesGoOn, NoneIs, TellsMerges, begins_merge, ends_merge, merge_was_told, numbers_in, passes_rows, stat_was_told}
 
 -- ---- rows and numbers
 
@@ -73,27 +73,13 @@ numbers_below n (x ∷ xs) (y ∷ ys) same all =
       numbers_below n xs ys rest all.1,
     )
 
-below_parts : (n : ℕ) (xs ys : List SegmentStat) → AllBelow n (xs ++ ys) → AllBelow n xs × AllBelow n ys
-below_parts n [] ys all = (tt, all)
-below_parts n (x ∷ xs) ys all = let h = below_parts n xs ys all.1 in ((all.0, h.0), h.1)
-
 none_made : (n : ℕ) (made : List SegmentStat) → AllBelow n made → AllFrom n made → length made ≡ 0
 none_made n [] low high = refl
 none_made n (x ∷ made) low high = absurd (let a = low.0 in let b = high.0 in omega (arith, a, b))
 
-one_of_one : (taken : List SegmentStat) (x : SegmentStat) → length taken ≡ 1 → Contains taken x → sum (map (λ (y : SegmentStat). y.rows) taken) ≡ x.rows
-one_of_one [] x one has = absurd (omega (arith, one))
-one_of_one (y ∷ []) x one has = let same = ap (λ (z : SegmentStat). z.rows) (in_one y x has) in omega (arith, same)
-one_of_one (y ∷ z ∷ taken) x one has = absurd (omega (arith, one))
-
 -- ---- what is made of segments
 
--- one comes at most
-data Comes (ys : List SegmentStat) (n : ℕ) (mid : List SegmentStat) : Type 0 where
-  nothing : mid ≡ ys → Comes ys n mid
-  another : (a : SegmentStat) → n ≤ a.number → a.rows ≡ 0 → mid ≡ ys ++ a ∷ [] → Comes ys n mid
-
--- Where some with rows are taken, others stand behind it, though one without rows came before.
+-- Where some with rows are taken, others stand behind it.
 module _ (n : ℕ) (ys mid now front taken made back behind : List SegmentStat) (low : AllBelow n ys) (falls : LiveRowsFall mid now)
     (is : now ≡ front ++ (taken ++ back)) (some : 0 < length taken) (rows : 0 < sum (map (λ (x : SegmentStat). x.rows) taken))
     (high : AllFrom n made) (left : LiveRowsFall (front ++ (made ++ back)) behind)
@@ -120,27 +106,8 @@ module _ (n : ℕ) (ys mid now front taken made back behind : List SegmentStat) 
       let c = length-append front (taken ++ back) in
       let d = length-append taken back in omega (arith, a, b, c, d)
 
-  others_stand : Comes ys n mid → ⊥
-  others_stand (Comes.nothing k) = let a = ap length k in let b = lengths in let c = now_long in omega (arith, a, b, c, some)
-  others_stand (Comes.another a above rowless k) = last (apart ys (a ∷ []) now (subst (λ m. LiveRowsFall m now) k falls))
-    where
-      single : length taken ≡ 1
-      single = let x = ap length k in let y = length-append ys (a ∷ []) in let b = lengths in let c = now_long in omega (arith, x, y, b, c)
-
-      last : (f b : List SegmentStat) × (now ≡ f ++ b) × LiveRowsFall ys f × LiveRowsFall (a ∷ []) b → ⊥
-      last (f, [], at, g, h) = h
-      last (f, x ∷ [], at, g, h) =
-          let has : Contains (front ++ (taken ++ back)) x = subst (λ xs. Contains xs x) (sym at ∙ is) (Contains-append_right f (x ∷ []) x (0, omega arith, refl)) in
-          let there = h.0 in let empty = h.1 in
-          let late : n ≤ x.number = omega (arith, there, above) in
-          elim (Contains-append_cases front (taken ++ back) x has) [
-            | inl k ↦ (let low = below_found n front x parts.0 k in omega (arith, low, late))
-            | inr k ↦ elim (Contains-append_cases taken back x k) [
-              | inl j ↦ (let s = one_of_one taken x single j in omega (arith, s, empty, rowless, rows))
-              | inr j ↦ (let low = below_found n back x parts.2 j in omega (arith, low, late))
-            ]
-          ]
-      last (f, x ∷ y ∷ b, at, g, h) = h.3
+  others_stand : mid ≡ ys → ⊥
+  others_stand k = let a = ap length k in let b = lengths in let c = now_long in omega (arith, a, b, c, some)
 
 -- ---- the merge in the making
 
@@ -302,9 +269,6 @@ module _ (always : Type 0) (factor least : ℕ) (from : Opened) where
   moves : (past : Run) (s : Standing) (e : Exchange) (new : Standing) → HasReason always factor least from past s e new → Goes factor s e.line.command e.reply new.merging
   moves past s e new h = goes factor least s e.line.command e.reply new.merging h.merges
 
-  undone : (e : Exchange) → is_told_done e.line.command e.reply ≡ false → e.reply ≡ Ok (Answer.news News.done) → ⊥
-  undone e none is = not_both (is_told_done e.line.command e.reply) (ap (is_told_done e.line.command) is) none
-
   -- what a STAT is told
   stat_told : (past : Run) (s new : Standing) (session : ℕ) (stat : Stat) → HasReason always factor least from past s (stat_was_told session stat) new
       → stat ≡ record s.stat { cached = length s.cache.sets }
@@ -378,10 +342,9 @@ module _ (always : Type 0) (factor least : ℕ) (from : Opened) where
       both [] none few = tt
       both (k ∷ run) none few = ((none.0, few.0), both run none.1 few.1)
 
-  -- numbers stay below the next one, where no merge is done
-  below_on : (past : Run) (s : Standing) (e : Exchange) (new : Standing) → is_told_done e.line.command e.reply ≡ false
-      → HasReason always factor least from past s e new → AllBelow s.next_segment s.stat.segments → AllBelow new.next_segment new.stat.segments
-  below_on past s e new none h all = below_step s new (steps always factor least from past s e new (undone e none) h) all
+  any_line : (run : Run) → AllByRecursion (λ (k : Exchange). Unit {0}) run
+  any_line [] = tt
+  any_line (k ∷ run) = (tt, any_line run)
 
   -- the merge goes on, and the next number is no lower
   abbrev Behind : ℕ × Progress → ℕ → Standing → Type 0
@@ -394,11 +357,11 @@ module _ (always : Type 0) (factor least : ℕ) (from : Opened) where
     (let a = h.moves.segment.0 in let b = has.1 in omega (arith, a, b)),
   )
 
-  -- what comes by a STAT where nothing waits
-  comes : (n : ℕ) (s new : Standing) (step : Steps s new) → s.stat.buffered ≡ 0 → n ≤ s.next_segment → Comes s.stat.segments n step.mid
-  comes n s new step empty low = elim step.is [
-    | inl same ↦ Comes.nothing same
-    | inr k ↦ Comes.another k.0 (let e = k.1 in omega (arith, e, low)) (let e = k.4 in omega (arith, e, empty)) k.2
+  -- no segment comes by a STAT, which takes no number
+  none_comes : (s new : Standing) (step : Steps s new) → new.next_segment ≡ s.next_segment → step.mid ≡ s.stat.segments
+  none_comes s new step still = elim step.is [
+    | inl same ↦ same
+    | inr k ↦ absurd (let e = k.3 in omega (arith, e, still))
   ]
 
   from_number : (n : ℕ) (m : ℕ × Progress) (made : List SegmentStat) → n ≤ m.0
@@ -408,10 +371,10 @@ module _ (always : Type 0) (factor least : ℕ) (from : Opened) where
 
   -- of a `done` behind a STAT
   others : (n : ℕ) (m : ℕ × Progress) (p q r : Run) (s t u v : Standing) (two three four : ℕ) (then behind : Stat) → n ≤ m.0 → 0 < m.1.rows → Behind m n s
-      → then.buffered ≡ 0 → AllBelow n then.segments
+      → AllBelow n then.segments
       → HasReason always factor least from p s (stat_was_told two then) t → HasReason always factor least from q t (merge_was_told three News.done) u
       → HasReason always factor least from r u (stat_was_told four behind) v → numbers_in behind ≡ numbers_in then → ⊥
-  others n m p q r s t u v two three four then behind low rows has empty below told done stated_last same =
+  others n m p q r s t u v two three four then behind low rows has below told done stated_last same =
       let ys = stat_told p s t two then told in
       let zs = stat_told r u v four behind stated_last in
       let segments : then.segments ≡ s.stat.segments = ap (λ (x : Stat). x.segments) ys in
@@ -427,16 +390,16 @@ module _ (always : Type 0) (factor least : ℕ) (from : Opened) where
       others_stand n s.stat.segments step.mid t.stat.segments d.1 d.2 d.3 d.4 u.stat.segments
       (subst (AllBelow n) segments below) step.falls d.6 d.8 taken_rows high (subst (λ xs. LiveRowsFall xs u.stat.segments) d.7 k.1)
       (ap (map (λ (x : SegmentStat). x.number)) (sym after) ∙ same ∙ ap (map (λ (x : SegmentStat). x.number)) segments)
-      (comes n s t step (sym (ap (λ (x : Stat). x.buffered) ys) ∙ empty) has.1)
+      (none_comes s t step (told.moves.still refl).0)
 
   makes : (before between rest : Run) (one two three four : ℕ) (e : Exchange) (stat then behind : Stat) (opened last : Standing) → 2 ≤ factor
-      → AllBelow opened.next_segment opened.stat.segments → HasRows stat → Is begins_merge e → NoneIs is_told_done before → NoneIs begins_merge between
-      → then.buffered ≡ 0 → numbers_in then ≡ numbers_in stat
+      → NumbersAreLow opened → HasRows stat → Is begins_merge e → NoneIs begins_merge between
+      → numbers_in then ≡ numbers_in stat
       → Leads [] opened (before ++ stat_was_told one stat ∷ e ∷ (between ++ stat_was_told two then ∷ merge_was_told three News.done ∷ stat_was_told four behind ∷ rest)) last
       → numbers_in behind ≡ numbers_in then → ⊥
-  makes before between rest one two three four e stat then behind opened last factors low has starts first none empty stood h same =
-      let x = along (λ s. AllBelow s.next_segment s.stat.segments) (λ k. is_told_done k.line.command k.reply ≡ false) below_on before
-      (stat_was_told one stat ∷ e ∷ (between ++ stat_was_told two then ∷ merge_was_told three News.done ∷ stat_was_told four behind ∷ rest)) [] opened last first low h in
+  makes before between rest one two three four e stat then behind opened last factors low has starts none stood h same =
+      let x = along NumbersAreLow (λ k. Unit {0}) (λ past s k new any t l. low_behind always factor least from past s k new t l) before
+      (stat_was_told one stat ∷ e ∷ (between ++ stat_was_told two then ∷ merge_was_told three News.done ∷ stat_was_told four behind ∷ rest)) [] opened last (any_line before) low h in
       let s = x.1 in
       let a = x.3.0 in
       let b = x.3.2.0 in
@@ -448,20 +411,20 @@ module _ (always : Type 0) (factor least : ℕ) (from : Opened) where
       let further : n ≤ b.next_segment = (let i = x.3.2.1.moves.segment.0 in omega (arith, i, up)) in
       let y = along (Behind m n) (λ k. begins_merge k.line.command k.reply ≡ false) (behind_on m n) between
       (stat_was_told two then ∷ merge_was_told three News.done ∷ stat_was_told four behind ∷ rest) (past ++ e ∷ []) b last none (begun_follows m b r.2, further) x.3.2.2 in
-      let below : AllBelow n stat.segments = subst (AllBelow n) (sym (ap (λ (k : Stat). k.segments) (stat_told x.0 s a one stat x.3.1))) x.2 in
+      let below : AllBelow n stat.segments = subst (AllBelow n) (sym (ap (λ (k : Stat). k.segments) (stat_told x.0 s a one stat x.3.1))) x.2.0 in
       let then_told = y.0 ++ stat_was_told two then ∷ [] in
-      others n m y.0 then_told (then_told ++ merge_was_told three News.done ∷ []) y.1 y.3.0 y.3.2.0 y.3.2.2.0 two three four then behind up r.1 y.2 empty (numbers_below n stat.segments then.segments stood below)
+      others n m y.0 then_told (then_told ++ merge_was_told three News.done ∷ []) y.1 y.3.0 y.3.2.0 y.3.2.2.0 two three four then behind up r.1 y.2 (numbers_below n stat.segments then.segments stood below)
       y.3.1 y.3.2.1 y.3.2.2.1 same
 
-  pub tells_merges : (opened last : Standing) (run : Run) → 2 ≤ factor → AllBelow opened.next_segment opened.stat.segments → Leads [] opened run last
+  pub tells_merges : (opened last : Standing) (run : Run) → 2 ≤ factor → NumbersAreLow opened → Leads [] opened run last
       → TellsMerges run
   tells_merges opened last run two low h = record {
     copied = λ before between rest one three n m none is. copies before between rest one three n m opened last none (so is);
     begun = λ before between rest e f starts again none is. twice before between rest e f opened last starts again none (so is);
     passed = λ before between rest one three e stat has starts none few is.
         unpassed before between rest one three e stat opened last two has starts none few (so is);
-    made = λ before between rest one three four five e stat then behind has starts first none empty stood is same.
-        makes before between rest one three four five e stat then behind opened last two low has starts first none empty stood (so is) same;
+    made = λ before between rest one three four five e stat then behind has starts none stood is same.
+        makes before between rest one three four five e stat then behind opened last two low has starts none stood (so is) same;
   }
     where
       so : {told : Run} → run ≡ told → Leads [] opened told last
@@ -498,4 +461,4 @@ module _ (json : Json) {D : Type 0} (kind : DirectoryKind D) where
   pub merges_go_on : MergesGoOn json kind
   merges_go_on device left first lines text c =
       tells_merges (TellsAlways kind) c.factor c.least c.served.from c.opened c.last (filter_map exchange c.served.fitting)
-      (let f = c.policy.factor_low in omega (arith, f)) (opened_below device left first lines text c) c.reasons
+      (let f = c.policy.factor_low in omega (arith, f)) (opened_below device left first lines text c, subst (λ o. IfSome o (λ m. m.0 < c.opened.next_segment)) (sym c.begins.idle) tt) c.reasons

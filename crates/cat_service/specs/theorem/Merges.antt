@@ -36,11 +36,6 @@ ends_merge (Command.chore Chore.merge) (Ok (Answer.news News.done)) = true
 ends_merge (Command.chore Chore.merge) (Err e) = true
 ends_merge c reply = false
 
--- a line that was told that a merge is done
-abbrev pub is_told_done : Command → Reply → Bool
-is_told_done c (Ok (Answer.news News.done)) = true
-is_told_done c reply = false
-
 -- the exchange is of this kind, and none of these are
 abbrev pub Is : (Command → Reply → Bool) → Exchange → Type 0
 Is kind e = kind e.line.command e.reply ≡ true
@@ -60,8 +55,8 @@ numbers_in stat = map (λ s. s.number) stat.segments
 -- ---- the whole
 
 -- Of the lines of a call in a row. Of two MERGEs that pass rows of one merge the second tells more rows. No merge is begun while one is in the
--- making, which none has ended. A merge of rows isn't done before some were passed. And where a call's first merge is done, of rows, while
--- nothing waits, and the segments stand that stood when it began, others stand behind it.
+-- making, which none has ended. A merge of rows isn't done before some were passed. And where a merge is done, of rows, and the segments
+-- stand that stood when it began, others stand behind it.
 pub record TellsMerges (run : Run) : Type 0 where
   pub copied : (before between rest : Run) (one two n m : ℕ) → NoneIs begins_merge between
       → run ≡ before ++ merge_was_told one (News.copied n) ∷ (between ++ merge_was_told two (News.copied m) ∷ rest) → n < m
@@ -71,7 +66,7 @@ pub record TellsMerges (run : Run) : Type 0 where
       → NoneIs begins_merge between → NoneIs passes_rows between
       → run ≡ before ++ stat_was_told one stat ∷ e ∷ (between ++ merge_was_told two News.done ∷ rest) → ⊥
   pub made : (before between rest : Run) (one two three four : ℕ) (e : Exchange) (stat then behind : Stat) → HasRows stat → Is begins_merge e
-      → NoneIs is_told_done before → NoneIs begins_merge between → then.buffered ≡ 0 → numbers_in then ≡ numbers_in stat
+      → NoneIs begins_merge between → numbers_in then ≡ numbers_in stat
       → run ≡ before ++ stat_was_told one stat ∷ e ∷ (between ++ stat_was_told two then ∷ merge_was_told three News.done ∷ stat_was_told four behind ∷ rest)
       → numbers_in behind ≡ numbers_in then → ⊥
 

@@ -26,7 +26,7 @@ returns-in-Ok g c =
     rw c.in-Some.is (
       told_to line.session run.0 (reply_of reply.answer),
       heard_as g.D.Holder.bytes g.D.Holder.may_leave g.D.Holder.can_fail g.D.Holder.fault_count c.args.self.now c.step-reply.new.self c.in-Some.bytes.now c.in-Some-text_of.text.now line.session (said_of line.command)
-          (reply_of reply.answer) c.in-Some-text_of.ensures.found c.in-Some-text_of.ensures.readable c.in-Ok.ensures.found run c.step-reply.ensures.schema c.step-reply.ensures.names c.step-reply.ensures.history c.step-reply.ensures.cause c.step-reply.ensures.numbers c.step-reply.ensures.policy c.step-reply.ensures.can c.step-reply.ensures.sets,
+          (reply_of reply.answer) c.in-Some-text_of.ensures.found c.in-Some-text_of.ensures.readable c.in-Ok.ensures.found run c.step-reply.ensures.schema c.step-reply.ensures.names c.step-reply.ensures.history c.step-reply.ensures.cause c.step-reply.ensures.numbers c.step-reply.ensures.policy c.step-reply.ensures.can c.step-reply.ensures.sets c.newest_lasts.ensures.few,
       sent,
     )
 

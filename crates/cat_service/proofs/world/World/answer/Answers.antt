@@ -28,7 +28,7 @@ returns-in-NoForm-clause-does g c = rw c.in-NoForm.is (record {
   told = refused NoForm;
   names = tt;
   wanting = λ h. absurd (let no : ◌≡◌ {A = Reply} (Err NoForm) (Err Memory) = h in cc);
-  cause = record { spent = λ k. tt; device = λ k. tt; counted = λ k. tt; damaged = λ k. tt; reached = λ k. tt; quiet = λ k. refl; told = tt; swept = tt; rises = omega arith; stays = tt; keeps = tt; making = λ e k other. refl };
+  cause = record { spent = λ k. tt; device = λ k. tt; counted = λ k. tt; damaged = λ k. tt; reached = λ k. tt; quiet = λ k. refl; told = tt; swept = tt; rises = omega arith; stays = tt; keeps = tt; making = λ e k other. refl; still = λ e k other. refl };
   sets = refl;
   numbers = record { segment = (omega arith, omega arith); generation = (omega arith, omega arith) };
   can = λ x. x;

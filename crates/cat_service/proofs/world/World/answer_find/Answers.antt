@@ -37,7 +37,7 @@ returns-clause-does g c = rw (← c.self.view_is) (
     let held = c.held_view-held.result in
     let lent : IsLent s c.args.session find.token (λ v. v.now) held = (record { some = c.held_view-held.ensures.some; none = c.held_view-held.ensures.none }) in
     does g.D.Holder.bytes g.D.Holder.can_fail g.D.Holder.fault_count c.args.session (Said.find find.token find.count sort find.mark find.query.now)
-    ledger (reply_of c.find.result) ledger c.find.new.filters c.self.invariant (record { spent = λ k. tt; device = λ k. tt; counted = λ k. tt; damaged = λ k. tt; reached = λ k. tt; quiet = λ k. refl; told = tt; swept = tt; rises = omega arith; stays = tt; keeps = tt; making = λ e k other. refl })
+    ledger (reply_of c.find.result) ledger c.find.new.filters c.self.invariant (record { spent = λ k. tt; device = λ k. tt; counted = λ k. tt; damaged = λ k. tt; reached = λ k. tt; quiet = λ k. refl; told = tt; swept = tt; rises = omega arith; stays = tt; keeps = tt; making = λ e k other. refl; still = λ e k other. refl })
     (read_uses s c.args.session find.token find.query.now c.self.inside.filters c.find.new.filters (λ v. v.now) held lent
     (λ q. Read.find find.count sort find.mark q) c.find.result
     (rw c.schema.ensures at c.find.ensures.told) (rw c.schema.ensures at c.find.ensures.noted) (rw c.schema.ensures at c.find.ensures.used))

@@ -98,3 +98,15 @@ invariant_of-result g c =
       sets = no_sets (shape_in ledger) c.in-Ok-nothing_kept.filters c.in-Ok-nothing_kept.ensures.0;
       kept = no_states (shape_in ledger) c.in-Ok-nothing_kept.states c.in-Ok-nothing_kept.ensures.1;
     }
+
+pub returns-in-Err-open-clause-ahead : goal.returns-in-Err-open-clause-ahead
+returns-in-Err-open-clause-ahead g c = tt
+
+pub returns-in-Err-open-clause-begins : goal.returns-in-Err-open-clause-begins
+returns-in-Err-open-clause-begins g c = tt
+
+pub returns-in-Err-open-clause-sets : goal.returns-in-Err-open-clause-sets
+returns-in-Err-open-clause-sets g c = tt
+
+pub returns-in-Err-open-clause-can : goal.returns-in-Err-open-clause-can
+returns-in-Err-open-clause-can g c = tt

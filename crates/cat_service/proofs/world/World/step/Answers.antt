@@ -29,4 +29,30 @@ returns-clause-promised g c from run stands =
 pub returns-clause-outlasts : goal.returns-clause-outlasts
 returns-clause-outlasts g c tells from run stands =
     newest_outlasts (g.D.Holder.bytes (device_of c.answer-answer.new.self)) (g.D.Holder.may_leave (device_of c.answer-answer.new.self)) (shape_of_service c.answer-answer.new.self)
-    from run (tells (device_of c.answer-answer.new.self)) (c.newest_lasts.ensures tells) stands
+    from run (tells (device_of c.answer-answer.new.self)) (c.newest_lasts.ensures.lasts tells) stands
+
+-- what the answer to a line is said to do
+
+pub returns-clause-told : goal.returns-clause-told
+returns-clause-told g c = c.answer-answer.ensures.does.told
+
+pub returns-clause-names : goal.returns-clause-names
+returns-clause-names g c = c.answer-answer.ensures.does.names
+
+pub returns-clause-cause : goal.returns-clause-cause
+returns-clause-cause g c = c.answer-answer.ensures.does.cause
+
+pub returns-clause-sets : goal.returns-clause-sets
+returns-clause-sets g c = c.answer-answer.ensures.does.sets
+
+pub returns-clause-numbers : goal.returns-clause-numbers
+returns-clause-numbers g c = c.answer-answer.ensures.does.numbers
+
+pub returns-clause-can : goal.returns-clause-can
+returns-clause-can g c = c.answer-answer.ensures.does.can
+
+pub returns-clause-schema : goal.returns-clause-schema
+returns-clause-schema g c = c.answer-answer.ensures.does.schema
+
+pub returns-clause-policy : goal.returns-clause-policy
+returns-clause-policy g c = c.answer-answer.ensures.does.policy
