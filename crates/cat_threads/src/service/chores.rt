@@ -3,7 +3,7 @@ ghost use Rattle.std.specs.Prelude.{◌≡◌, ◌⊎◌};
 ghost use Rattle.cat_model.specs.Lines.{Said};
 ghost use Rattle.cat_model.specs.View.{segments_of};
 ghost use Rattle.cat_commands.specs.cat_cached_sets.filters.Known.{Remembers, RemembersBelow, FiltersRemember, FiltersRememberBelow};
-ghost use Rattle.cat_commands.specs.cat_ledger.Answering.{AnswersSaid, number_reply};
+ghost use Rattle.cat_commands.specs.cat_ledger.Answering.{AnswersSaid};
 ghost use Rattle.cat_commands.specs.cat_ledger.Ledgers.{shape_in};
 ghost use Rattle.cat_commands.specs.cat_protocol.replies.Reply.{reply_of};
 ghost use Rattle.cat_commands.specs.ledger.Chores.{chore_of};
@@ -147,26 +147,6 @@ fn upkeep<D: Directory + Shelf>(
     commands::maintain(alloc, ledger, filters, 0, chore)
 }
 
-/// What a call of the ledger is answered that tells a number.
-fn number_told(number: Result<u64, Refusal>) -> Result<Answer, Refusal>
-    ensures { reply_of result ≡ number_reply number }
-{
-    match number {
-        Ok(number) => Ok(Answer::Number(number)),
-        Err(refusal) => Err(refusal),
-    }
-}
-
-/// So of how many snapshots of a commit are left.
-fn left_told(left: Result<u32, Refusal>) -> Result<Answer, Refusal>
-    ensures { reply_of result ≡ number_reply left }
-{
-    match left {
-        Ok(left) => Ok(Answer::Number(left as u64)),
-        Err(refusal) => Err(refusal),
-    }
-}
-
 /// Does the chore, by the call for the line that session 0 would say.
 pub(crate) fn answer<D: Directory + Shelf>(
     alloc: Global,
@@ -185,11 +165,11 @@ pub(crate) fn answer<D: Directory + Shelf>(
         Chore::Sweep => upkeep(alloc, ledger, filters, commands::Chore::Sweep),
         Chore::Stat => upkeep(alloc, ledger, filters, commands::Chore::Stat),
         Chore::Warm => commands::warm(ledger, filters, 0),
-        Chore::Commit(text) => number_told(ledger.commit(text.as_str())),
+        Chore::Commit(text) => commands::number_told(ledger.commit(text.as_str())),
         Chore::Note(generation) => commands::text_of_commit(alloc, ledger, *generation),
-        Chore::Snap => number_told(ledger.snapshot()),
-        Chore::Unsnap(generation) => left_told(ledger.unsnapshot(*generation)),
-        Chore::Prune(count) => number_told(ledger.prune(*count)),
+        Chore::Snap => commands::number_told(ledger.snapshot()),
+        Chore::Unsnap(generation) => commands::left_told(ledger.unsnapshot(*generation)),
+        Chore::Prune(count) => commands::number_told(ledger.prune(*count)),
         Chore::Files(generation) => commands::files_of_commit(ledger, *generation),
     }
 }

@@ -9,3 +9,6 @@ pub swap-requires-clause-rule : goal.swap-requires-clause-rule
 swap-requires-clause-rule g c =
     let w = c.requires.words in
     records_as _ _ (c.args.count ∷ c.args.token ∷ []) c.requires.desk.1 w.0 w.1
+
+pub returns : goal.returns
+returns g c = (c.swap.ensures.own, c.swap.ensures.rule)

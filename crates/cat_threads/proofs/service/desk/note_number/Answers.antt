@@ -9,3 +9,9 @@ note-requires-clause-words g c =
 
 pub returns : goal.returns
 returns g c = c.note.ensures
+
+pub note-requires-clause-desk : goal.note-requires-clause-desk
+note-requires-clause-desk g c = c.requires.desk
+
+pub note-requires-clause-own : goal.note-requires-clause-own
+note-requires-clause-own g c = c.requires.own

@@ -1,4 +1,4 @@
-use Rattle.std.proofs.Common.{arith}
+use Rattle.std.proofs.Common.{arith, refl}
 use Rattle.cat_threads.proofs.service.desk.record_token.Goals as goal
 
 pub record-requires-clause-words : goal.record-requires-clause-words
@@ -9,3 +9,9 @@ record-requires-clause-words g c =
 
 pub returns-clause-scribe : goal.returns-clause-scribe
 returns-clause-scribe g c = c.record.ensures
+
+pub record-requires-clause-desk : goal.record-requires-clause-desk
+record-requires-clause-desk g c = c.requires.desk
+
+pub returns-clause-newest : goal.returns-clause-newest
+returns-clause-newest g c = refl

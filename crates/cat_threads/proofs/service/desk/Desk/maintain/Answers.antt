@@ -32,3 +32,6 @@ returns-clause-answered g c =
     } in
     rw (← c.self.view_is)
     (told_over bytes old a.new.ledger g.J.Naming.from g.J.Naming.sessions (cell_view c.self.inside.scribe) c.args.chore c.of.result its c.self.invariant.3)
+
+pub returns-clause-chore : goal.returns-clause-chore
+returns-clause-chore g c = c.of.ensures.chore

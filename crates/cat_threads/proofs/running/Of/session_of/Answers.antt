@@ -1,0 +1,4 @@
+use Rattle.cat_threads.proofs.running.Of.session_of.Goals as goal
+
+pub returns : goal.returns
+returns g c = assumption
