@@ -3,4 +3,5 @@ pub mod Telling
 pub mod Counted
 pub mod Differing
 pub mod Spelled
+pub mod Untold
 mod Crossings

@@ -1,5 +1,5 @@
 -- Replies to lines, from what the calls answer.
-use Rattle.std.proofs.Common.{◌≡◌, ◌∙◌, ◌⊎◌, ◌≢◌, ◌+◌, ◌<◌, inl, inr, ℕ, List, length, false, true, arith, Option, None, Some, option_map, ap, sym, subst, refl}
+use Rattle.std.proofs.Common.{◌≡◌, ◌∙◌, ◌⊎◌, ◌≢◌, ◌+◌, ◌<◌, inl, inr, ℕ, List, [], length, append-nil, false, true, arith, Option, None, Some, option_map, ap, sym, subst, refl}
 use Rattle.std.specs.Prelude.{Result, Ok, Err, IfOk, IfErr, OnErr, OnOk, is_some, if◌then◌else◌}
 use Rattle.cat_base.specs.declared.refusal.Refusal.{Refusal}
 use Rattle.cat_base.specs.declared.refusal.Refusal.TheVariants.{Damaged, Device, Gone, Kind, Memory, NotHeld, Query as NoQuery}
@@ -45,6 +45,10 @@ read_told from v rights t asked r (Some h) is a (inr e) = subst (λ (x : Reply).
 pub option_map_twice : {A B C : Type 0} (f : A → B) (g : B → C) (o : Option A) → option_map g (option_map f o) ≡ option_map (λ x. g (f x)) o
 option_map_twice f g None = refl
 option_map_twice f g (Some x) = refl
+
+-- what was seen is seen
+pub follows_itself : (v : Seen) → Follows v v
+follows_itself v = record { same = refl; longer = ([], append-nil v.list); later = omega arith }
 
 -- what a session's rights are to after its line
 pub rights_after : (told : ToldFiles) (from : Ground) (serves : Said → Reply → Type 0) (said : Option Said) (v : Seen) (k : Kept) (w : Seen) (l : Kept) (r : Reply)

@@ -8,7 +8,7 @@ use Rattle.cat_model.specs.Query.{Query}
 use Rattle.cat_model.specs.Write.{Write}
 use Rattle.cat_threads.specs.cat_commands.cat_cached_sets.cat_query.View.{query_of}
 use Rattle.cat_callers.specs.Told.{deleting_where}
-use Rattle.cat_callers.proofs.Telling.{unread, unread_query, written}
+use Rattle.cat_callers.proofs.Telling.{follows_itself, unread, unread_query, written}
 use Rattle.cat_callers.proofs.front.Front.delete_where.Goals as goal
 
 pub returns-in-Err-clause-told : goal.returns-in-Err-clause-told
@@ -28,3 +28,9 @@ returns-clause-told g c =
     c.write.new.me (Write.delete_where q) c.write.result
     (Ok q, IsQueryOf.spelled q (subst (λ (s : Schema). Spells s c.args.text.now q) c.args.self.now.fields c.in-Ok.ensures.ok), refl) (λ no. no)
     c.write.ensures.wrote c.write.ensures.idle c.write.ensures.refusal
+
+pub returns-in-Err-clause-seen : goal.returns-in-Err-clause-seen
+returns-in-Err-clause-seen g c = follows_itself c.args.me.now
+
+pub returns-clause-seen : goal.returns-clause-seen
+returns-clause-seen g c = c.write.ensures.seen

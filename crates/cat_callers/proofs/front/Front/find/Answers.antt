@@ -1,4 +1,4 @@
-use Rattle.std.proofs.Common.{◌≡◌, ap, inl, inr, subst, sym, None, Some}
+use Rattle.std.proofs.Common.{◌≡◌, ap, inl, inr, subst, sym, None, Some, refl}
 use Rattle.std.specs.Prelude.{Err, Ok}
 use Rattle.cat_base.specs.declared.refusal.Refusal.{Refusal}
 use Rattle.cat_model.specs.Answer.{Found, Read}
@@ -9,7 +9,7 @@ use Rattle.cat_threads.specs.cat_commands.cat_protocol.cat_search.Sorts.{sort_of
 use Rattle.cat_callers.specs.Sessions.{Kept}
 use Rattle.cat_callers.specs.Told.{ToldQuery}
 use Rattle.cat_callers.proofs.Held.{right_named}
-use Rattle.cat_callers.proofs.Telling.{faulty_told, is_memory, page_told, same_find, unheld_told}
+use Rattle.cat_callers.proofs.Telling.{faulty_told, follows_itself, is_memory, page_told, same_find, unheld_told}
 use Rattle.cat_callers.proofs.front.Front.find.Goals as goal
 
 pub returns-in-Err-clause-told : goal.returns-in-Err-clause-told
@@ -72,3 +72,33 @@ returns-in-Err-page-clause-told g c =
           c.ask_of-ask.ensures.1 (ap query_of c.in-Ok-ready.ensures.query))
           (c.in-Err-page.ensures.err other)
     ]
+
+pub returns-in-Err-clause-seen : goal.returns-in-Err-clause-seen
+returns-in-Err-clause-seen g c = follows_itself c.args.me.now
+
+pub returns-in-Err-clause-idle : goal.returns-in-Err-clause-idle
+returns-in-Err-clause-idle g c = refl
+
+pub returns-in_default-clause-seen : goal.returns-in_default-clause-seen
+returns-in_default-clause-seen g c = follows_itself c.args.me.now
+
+pub returns-in_default-clause-idle : goal.returns-in_default-clause-idle
+returns-in_default-clause-idle g c = refl
+
+pub returns-in_default-ready-clause-seen : goal.returns-in_default-ready-clause-seen
+returns-in_default-ready-clause-seen g c = c.ready.ensures.seen
+
+pub returns-in_default-ready-clause-idle : goal.returns-in_default-ready-clause-idle
+returns-in_default-ready-clause-idle g c = c.ready.ensures.idle
+
+pub returns-in-Ok-page-clause-seen : goal.returns-in-Ok-page-clause-seen
+returns-in-Ok-page-clause-seen g c = c.ready.ensures.seen
+
+pub returns-in-Ok-page-clause-idle : goal.returns-in-Ok-page-clause-idle
+returns-in-Ok-page-clause-idle g c = c.ready.ensures.idle
+
+pub returns-in-Err-page-clause-seen : goal.returns-in-Err-page-clause-seen
+returns-in-Err-page-clause-seen g c = c.ready.ensures.seen
+
+pub returns-in-Err-page-clause-idle : goal.returns-in-Err-page-clause-idle
+returns-in-Err-page-clause-idle g c = c.ready.ensures.idle

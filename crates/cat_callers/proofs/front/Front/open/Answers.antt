@@ -34,3 +34,48 @@ returns-in-None-clause-told g c =
 
 pub returns-in-Err-clause-told : goal.returns-in-Err-clause-told
 returns-in-Err-clause-told g c = ToldOpen.refused c.in-Err.refusal c.in-Err.ensures.refusal c.in-Err.ensures.gone refl
+
+pub returns-in-Ok-clause-seen : goal.returns-in-Ok-clause-seen
+returns-in-Ok-clause-seen g c = c.open.ensures.seen
+
+pub returns-in-Ok-clause-idle : goal.returns-in-Ok-clause-idle
+returns-in-Ok-clause-idle g c = c.open.ensures.idle
+
+pub returns-in-Err-keep-clause-seen : goal.returns-in-Err-keep-clause-seen
+returns-in-Err-keep-clause-seen g c = c.open.ensures.seen
+
+pub returns-in-Err-keep-clause-idle : goal.returns-in-Err-keep-clause-idle
+returns-in-Err-keep-clause-idle g c = c.open.ensures.idle
+
+pub returns-in-Some-clause-seen : goal.returns-in-Some-clause-seen
+returns-in-Some-clause-seen g c = c.open.ensures.seen
+
+pub returns-in-Some-clause-idle : goal.returns-in-Some-clause-idle
+returns-in-Some-clause-idle g c = c.open.ensures.idle
+
+pub returns-in-None-clause-seen : goal.returns-in-None-clause-seen
+returns-in-None-clause-seen g c = c.open.ensures.seen
+
+pub returns-in-None-clause-idle : goal.returns-in-None-clause-idle
+returns-in-None-clause-idle g c = c.open.ensures.idle
+
+pub returns-in-Err-clause-seen : goal.returns-in-Err-clause-seen
+returns-in-Err-clause-seen g c = c.open.ensures.seen
+
+pub returns-in-Err-clause-idle : goal.returns-in-Err-clause-idle
+returns-in-Err-clause-idle g c = c.open.ensures.idle
+
+pub returns-in-Ok-clause-same : goal.returns-in-Ok-clause-same
+returns-in-Ok-clause-same g c = c.keep.ensures.same
+
+pub returns-in-Err-keep-clause-same : goal.returns-in-Err-keep-clause-same
+returns-in-Err-keep-clause-same g c = c.keep.ensures.same
+
+pub returns-in-Some-clause-same : goal.returns-in-Some-clause-same
+returns-in-Some-clause-same g c = refl
+
+pub returns-in-None-clause-same : goal.returns-in-None-clause-same
+returns-in-None-clause-same g c = refl
+
+pub returns-in-Err-clause-same : goal.returns-in-Err-clause-same
+returns-in-Err-clause-same g c = refl

@@ -12,3 +12,9 @@ pub returns-clause-rights : goal.returns-clause-rights
 returns-clause-rights g c =
     rights_after (g.S.Holder.bytes c.args.shelf.now) g.J.Naming.from (serves g.D.Holder.bytes g.J.Naming.from) (said_of c.args.command) c.args.me.now c.args.holdings.now c.told_by.new.me c.told_by.new.holdings
     (reply_of c.told_by.result) c.requires.own c.requires.rights c.told_by.ensures.seen c.told_by.ensures.told
+
+pub returns-clause-seen : goal.returns-clause-seen
+returns-clause-seen g c = c.told_by.ensures.seen
+
+pub returns-clause-told : goal.returns-clause-told
+returns-clause-told g c = c.told_by.ensures.told

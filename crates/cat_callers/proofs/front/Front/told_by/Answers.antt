@@ -12,6 +12,7 @@ use Rattle.cat_threads.specs.service.Passes.{Idle, Seen}
 use Rattle.cat_threads.specs.sharing.Grounds.{Ground}
 use Rattle.cat_callers.specs.Sessions.{Kept}
 use Rattle.cat_callers.specs.Told.{Tells, ToldGet, ToldNames, ToldOpen, serves}
+use Rattle.cat_callers.proofs.Telling.{follows_itself}
 use Rattle.cat_callers.proofs.front.Front.told_by.Goals as goal
 
 module _ (told : ToldFiles) (from : Ground) (to : Said → Reply → Type 0) (v : Seen) (k : Kept) (w : Seen) (l : Kept) (r : Reply) where
@@ -132,3 +133,138 @@ pub returns-in-Stat-clause-told : goal.returns-in-Stat-clause-told
 returns-in-Stat-clause-told g c =
     so_told (g.S.Holder.bytes c.args.shelf.now) g.J.Naming.from (serves g.D.Holder.bytes g.J.Naming.from) c.args.me.now c.args.holdings.now c.args.me.now c.args.holdings.now (reply_of c.maintain-in-Stat.result) _ _ c.in-Stat.is
     ((refl, refl), record { others = c.maintain-in-Stat.ensures.others; mine = c.maintain-in-Stat.ensures.mine })
+
+pub returns-in-NoForm-clause-same : goal.returns-in-NoForm-clause-same
+returns-in-NoForm-clause-same g c = refl
+
+pub returns-in-NoForm-clause-seen : goal.returns-in-NoForm-clause-seen
+returns-in-NoForm-clause-seen g c = follows_itself c.args.me.now
+
+pub returns-in-Put-clause-same : goal.returns-in-Put-clause-same
+returns-in-Put-clause-same g c = refl
+
+pub returns-in-Put-clause-seen : goal.returns-in-Put-clause-seen
+returns-in-Put-clause-seen g c = c.put.ensures.seen
+
+pub returns-in-Delete-clause-same : goal.returns-in-Delete-clause-same
+returns-in-Delete-clause-same g c = refl
+
+pub returns-in-Delete-clause-seen : goal.returns-in-Delete-clause-seen
+returns-in-Delete-clause-seen g c = c.delete.ensures.seen
+
+pub returns-in-DeleteWhere-clause-same : goal.returns-in-DeleteWhere-clause-same
+returns-in-DeleteWhere-clause-same g c = refl
+
+pub returns-in-DeleteWhere-clause-seen : goal.returns-in-DeleteWhere-clause-seen
+returns-in-DeleteWhere-clause-seen g c = c.delete_where.ensures.seen
+
+pub returns-in-Refresh-clause-same : goal.returns-in-Refresh-clause-same
+returns-in-Refresh-clause-same g c = refl
+
+pub returns-in-Refresh-clause-seen : goal.returns-in-Refresh-clause-seen
+returns-in-Refresh-clause-seen g c = c.refresh.ensures.seen
+
+pub returns-in-Open-clause-same : goal.returns-in-Open-clause-same
+returns-in-Open-clause-same g c = c.open.ensures.same
+
+pub returns-in-Open-clause-seen : goal.returns-in-Open-clause-seen
+returns-in-Open-clause-seen g c = c.open.ensures.seen
+
+pub returns-in-Close-clause-same : goal.returns-in-Close-clause-same
+returns-in-Close-clause-same g c = c.close.ensures.same
+
+pub returns-in-Close-clause-seen : goal.returns-in-Close-clause-seen
+returns-in-Close-clause-seen g c = follows_itself c.args.me.now
+
+pub returns-in-Find-clause-same : goal.returns-in-Find-clause-same
+returns-in-Find-clause-same g c = refl
+
+pub returns-in-Find-clause-seen : goal.returns-in-Find-clause-seen
+returns-in-Find-clause-seen g c = c.find.ensures.seen
+
+pub returns-in-Facets-clause-same : goal.returns-in-Facets-clause-same
+returns-in-Facets-clause-same g c = ap (λ (k : Kept). k.session) c.count_facets.ensures.same
+
+pub returns-in-Facets-clause-seen : goal.returns-in-Facets-clause-seen
+returns-in-Facets-clause-seen g c = follows_itself c.args.me.now
+
+pub returns-in-Get-clause-same : goal.returns-in-Get-clause-same
+returns-in-Get-clause-same g c = refl
+
+pub returns-in-Get-clause-seen : goal.returns-in-Get-clause-seen
+returns-in-Get-clause-seen g c = follows_itself c.args.me.now
+
+pub returns-in-FilesOfToken-clause-same : goal.returns-in-FilesOfToken-clause-same
+returns-in-FilesOfToken-clause-same g c = refl
+
+pub returns-in-FilesOfToken-clause-seen : goal.returns-in-FilesOfToken-clause-seen
+returns-in-FilesOfToken-clause-seen g c = follows_itself c.args.me.now
+
+pub returns-in-FilesOfCommit-clause-same : goal.returns-in-FilesOfCommit-clause-same
+returns-in-FilesOfCommit-clause-same g c = refl
+
+pub returns-in-FilesOfCommit-clause-seen : goal.returns-in-FilesOfCommit-clause-seen
+returns-in-FilesOfCommit-clause-seen g c = follows_itself c.args.me.now
+
+pub returns-in-Commit-clause-same : goal.returns-in-Commit-clause-same
+returns-in-Commit-clause-same g c = refl
+
+pub returns-in-Commit-clause-seen : goal.returns-in-Commit-clause-seen
+returns-in-Commit-clause-seen g c = follows_itself c.args.me.now
+
+pub returns-in-Note-clause-same : goal.returns-in-Note-clause-same
+returns-in-Note-clause-same g c = refl
+
+pub returns-in-Note-clause-seen : goal.returns-in-Note-clause-seen
+returns-in-Note-clause-seen g c = follows_itself c.args.me.now
+
+pub returns-in-Snapshot-clause-same : goal.returns-in-Snapshot-clause-same
+returns-in-Snapshot-clause-same g c = refl
+
+pub returns-in-Snapshot-clause-seen : goal.returns-in-Snapshot-clause-seen
+returns-in-Snapshot-clause-seen g c = follows_itself c.args.me.now
+
+pub returns-in-Unsnapshot-clause-same : goal.returns-in-Unsnapshot-clause-same
+returns-in-Unsnapshot-clause-same g c = refl
+
+pub returns-in-Unsnapshot-clause-seen : goal.returns-in-Unsnapshot-clause-seen
+returns-in-Unsnapshot-clause-seen g c = follows_itself c.args.me.now
+
+pub returns-in-Prune-clause-same : goal.returns-in-Prune-clause-same
+returns-in-Prune-clause-same g c = refl
+
+pub returns-in-Prune-clause-seen : goal.returns-in-Prune-clause-seen
+returns-in-Prune-clause-seen g c = follows_itself c.args.me.now
+
+pub returns-in-Merge-clause-same : goal.returns-in-Merge-clause-same
+returns-in-Merge-clause-same g c = refl
+
+pub returns-in-Merge-clause-seen : goal.returns-in-Merge-clause-seen
+returns-in-Merge-clause-seen g c = follows_itself c.args.me.now
+
+pub returns-in-Force-clause-same : goal.returns-in-Force-clause-same
+returns-in-Force-clause-same g c = refl
+
+pub returns-in-Force-clause-seen : goal.returns-in-Force-clause-seen
+returns-in-Force-clause-seen g c = follows_itself c.args.me.now
+
+pub returns-in-Warm-clause-same : goal.returns-in-Warm-clause-same
+returns-in-Warm-clause-same g c = refl
+
+pub returns-in-Warm-clause-seen : goal.returns-in-Warm-clause-seen
+returns-in-Warm-clause-seen g c = follows_itself c.args.me.now
+
+pub returns-in-Sweep-clause-same : goal.returns-in-Sweep-clause-same
+returns-in-Sweep-clause-same g c = refl
+
+pub returns-in-Sweep-clause-seen : goal.returns-in-Sweep-clause-seen
+returns-in-Sweep-clause-seen g c = follows_itself c.args.me.now
+
+pub returns-in-Stat-clause-same : goal.returns-in-Stat-clause-same
+returns-in-Stat-clause-same g c = refl
+
+pub returns-in-Stat-clause-seen : goal.returns-in-Stat-clause-seen
+returns-in-Stat-clause-seen g c = follows_itself c.args.me.now
+
+pub returns-in-Delete-clause-told : goal.returns-in-Delete-clause-told
+returns-in-Delete-clause-told g c = rw c.in-Delete.is assumption
