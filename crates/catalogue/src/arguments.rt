@@ -1,6 +1,6 @@
 //! What the program is asked to do.
-ghost use Rattle.std.specs.Prelude.{◌≡◌, map, string_bytes};
-ghost use Rattle.catalogue.specs.Asked.{asked_of, count_spelled, task_told};
+ghost use Rattle.std.specs.Prelude.{◌≡◌, ◌&&◌, None, bytes_eq, codes, if◌then◌else◌, map, string_bytes};
+ghost use Rattle.catalogue.specs.Asked.{alone, asked_of, count_spelled, task_told, with_path};
 
 use cat_base::parse_number;
 use cat_callers::MAX_THREADS;
@@ -41,6 +41,39 @@ fn thread_count(word: &str) -> Option<usize>
     }
 }
 
+/// What one word asks for.
+fn task_of_word<'a>(word: &str) -> Task<'a>
+    ensures { task_told result ≡ alone (bytes_eq word.now (codes "run")) (bytes_eq word.now (codes "--version")) }
+{
+    match word {
+        "run" => Task::InMemory,
+        "--version" => Task::Version,
+        _ => Task::Usage,
+    }
+}
+
+/// What a word with a path behind it asks for.
+fn task_at_path<'a>(word: &str, path: &'a str) -> Task<'a>
+    ensures { task_told result ≡ with_path (bytes_eq word.now (codes "run")) (bytes_eq word.now (codes "threads")) path.now }
+{
+    match word {
+        "run" => Task::InFolder(path),
+        "threads" => Task::InThreads(path),
+        _ => Task::Usage,
+    }
+}
+
+/// By how many threads the words ask to serve.
+fn threads_asked(word: &str, option: &str, count: &str) -> Option<usize>
+    ensures { result ≡ if bytes_eq word.now (codes "run") && bytes_eq option.now (codes "--threads") then count_spelled count.now else None }
+{
+    if word == "run" && option == "--threads" {
+        thread_count(count)
+    } else {
+        None
+    }
+}
+
 impl<'a> Task<'a> {
     /// The task that the words behind the program's name ask for: to serve in memory is no word, or `run` alone; `run` with one
     /// word behind it is to serve over the folder of that path, and `threads` with one is to do so in threads; `--threads` and
@@ -50,19 +83,16 @@ impl<'a> Task<'a> {
     {
         match words {
             [] => Task::InMemory,
-            [word] if word.as_str() == "run" => Task::InMemory,
-            [word] if word.as_str() == "--version" => Task::Version,
-            [word, path] if word.as_str() == "run" => Task::InFolder(path.as_str()),
-            [word, path] if word.as_str() == "threads" => Task::InThreads(path.as_str()),
-            [word, option, count] if word.as_str() == "run" && option.as_str() == "--threads" => {
-                match thread_count(count.as_str()) {
+            [word] => task_of_word(word.as_str()),
+            [word, path] => task_at_path(word.as_str(), path.as_str()),
+            [word, option, count] => {
+                match threads_asked(word.as_str(), option.as_str(), count.as_str()) {
                     Some(count) => Task::StreamedInMemory(count),
                     None => Task::Usage,
                 }
             }
-            [word, option, count, path]
-                if word.as_str() == "run" && option.as_str() == "--threads" => {
-                match thread_count(count.as_str()) {
+            [word, option, count, path] => {
+                match threads_asked(word.as_str(), option.as_str(), count.as_str()) {
                     Some(count) => Task::StreamedInFolder(count, path.as_str()),
                     None => Task::Usage,
                 }

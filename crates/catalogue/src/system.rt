@@ -103,6 +103,8 @@ impl Drop for Replies<'_> {
 }
 
 impl Write for Replies<'_> {
+    // Put in place of each call, as `BufWriter` has it: a page of a thousand ids is two thousand calls, each of a few bytes.
+    #[inline(always)]
     fn write(&mut self, bytes: &[u8]) -> io::Result<usize> {
         match self {
             Replies::Gathered(writer) => writer.write(bytes),

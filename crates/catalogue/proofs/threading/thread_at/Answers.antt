@@ -1,0 +1,13 @@
+use Rattle.std.proofs.Common.{Ok, Err}
+use Rattle.catalogue.proofs.threading.thread_at.Goals as goal
+
+pub returns-in-Ok : goal.returns-in-Ok
+returns-in-Ok g c = (Ok c.in-Ok.folder, c.folder_at.new.self, c.in-Ok.ensures, c.thread_folder.ensures)
+
+pub returns-in-Err : goal.returns-in-Err
+returns-in-Err g c = (
+  Err c.in-Err.field-0,
+  c.folder_at.new.self,
+  c.in-Err.ensures,
+  (Err c.refuse_for_memory.result, c.refuse_for_memory.ensures, c.told.ensures),
+)
