@@ -5,4 +5,6 @@ mod bytes;
 #[cfg(test)]
 mod refusals;
 #[cfg(test)]
+mod shared;
+#[cfg(test)]
 mod texts;

@@ -3,6 +3,8 @@
 #[cfg(test)]
 mod items;
 #[cfg(test)]
+mod read;
+#[cfg(test)]
 mod schemas;
 #[cfg(test)]
 mod texts;

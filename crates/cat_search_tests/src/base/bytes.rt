@@ -1,27 +1,20 @@
 //! Numbers and texts as bytes, and what is refused of bytes.
-use crate::verdict::expect_yes;
 use cat_base::{Cursor, Refusal, put_bytes, put_u32, put_u64};
 use std::alloc::{AllocError, Global};
-use std::test::Fail;
 
-/// Two numbers and a text, as they are put.
-fn put(alloc: Global) -> Result<Vec<u8>, AllocError> {
-    let mut out = Vec::new(alloc);
-    put_u32(&mut out, 1)?;
-    put_u64(&mut out, 258)?;
-    put_bytes(&mut out, b"ab")?;
-    Ok(out)
+/// Puts two numbers and a text.
+fn put(out: &mut Vec<u8>) -> Result<(), AllocError> {
+    put_u32(out, 1)?;
+    put_u64(out, 258)?;
+    put_bytes(out, b"ab")
 }
 
 /// Whether numbers are put with their high byte first, and texts behind how long they are.
 fn is_put(alloc: Global) -> Result<bool, AllocError> {
     const WANT: &[u8] = &[0, 0, 0, 1, 0, 0, 0, 0, 0, 0, 1, 2, 0, 0, 0, 2, 0x61, 0x62];
-    Ok(put(alloc)?.as_slice() == WANT)
-}
-
-#[test]
-fn puts_the_high_byte_first(rt: HostRuntime) -> Result<(), Fail> {
-    expect_yes(is_put(rt.alloc()))
+    let mut out = Vec::new(alloc);
+    put(&mut out)?;
+    Ok(out.as_slice() == WANT)
 }
 
 /// What is taken of bytes, and what is answered.
@@ -90,8 +83,16 @@ const LEFT: &[Taken<'static>] = &[
     Taken::End(Ok(())),
 ];
 
-/// Takes what was put, and leaves what it refuses.
-#[test]
-fn takes_what_was_put_and_leaves_what_it_refuses(rt: HostRuntime) {
-    assert!(rt; are_taken(PUT, TAKEN) && are_taken(CUT, LEFT));
+/// What isn't so of bytes.
+pub(super) fn failing(alloc: Global) -> Result<Option<&'static str>, AllocError> {
+    if !is_put(alloc)? {
+        return Ok(Some("the high byte is put first"));
+    }
+    if !are_taken(PUT, TAKEN) {
+        return Ok(Some("what was put is taken"));
+    }
+    if !are_taken(CUT, LEFT) {
+        return Ok(Some("what is refused is left"));
+    }
+    Ok(None)
 }

@@ -1,9 +1,7 @@
 //! What each refusal shows, and that a bare `?` lifts want of memory.
-use crate::verdict::{expect, expect_yes};
 use cat_base::Refusal;
 use std::alloc::{AllocError, Global};
 use std::sync::Arc;
-use std::test::Fail;
 
 // Each refusal, its number, and the sentence that it shows.
 const SHOWN: &[(Refusal, u8, &str)] = &[
@@ -81,29 +79,26 @@ const SHOWN: &[(Refusal, u8, &str)] = &[
     (Refusal::Memory, 40, "40: out of memory"),
 ];
 
-/// Whether the refusal has the number beside it, and shows the sentence.
-fn is_shown(alloc: Global, row: &(Refusal, u8, &str)) -> Result<bool, AllocError> {
-    let (refusal, number, sentence) = row;
+/// Whether the refusal shows the sentence.
+fn is_shown(alloc: Global, refusal: &Refusal, sentence: &str) -> Result<bool, AllocError> {
     let shown = format!(in alloc; "{refusal}")?;
-    Ok(refusal.number() == *number && shown.as_str() == *sentence)
+    Ok(shown.as_str() == sentence)
 }
 
-/// The same of each refusal.
-fn are_shown(alloc: Global, rows: &[(Refusal, u8, &str)]) -> Result<bool, AllocError> {
-    for row in rows {
-        if !is_shown(alloc, row)? {
-            return Ok(false);
+/// The first sentence whose refusal has another number, or shows another sentence.
+fn shown_otherwise(
+    alloc: Global,
+    rows: &[(Refusal, u8, &'static str)],
+) -> Result<Option<&'static str>, AllocError> {
+    for (refusal, number, sentence) in rows {
+        if refusal.number() != *number || !is_shown(alloc, refusal, sentence)? {
+            return Ok(Some(sentence));
         }
     }
-    Ok(true)
+    Ok(None)
 }
 
-#[test]
-fn shows_its_number_and_a_sentence(rt: HostRuntime) -> Result<(), Fail> {
-    expect_yes(are_shown(rt.alloc(), SHOWN))
-}
-
-// A bare `?` on each kind of refused allocation.
+/// A bare `?` on each kind of refused allocation.
 fn shared(alloc: Global, word: &str) -> Result<Vec<Arc<String>>, Refusal> {
     let first = Arc::new(alloc, String::from_str(alloc, word)?)?;
     let mut all = Vec::new(alloc);
@@ -117,8 +112,10 @@ fn are_two_of(words: &[Arc<String>], word: &str) -> bool {
     words.len() == 2 && words[0].as_str() == word
 }
 
-#[test]
-fn shares_by_a_bare_question_mark(rt: HostRuntime) -> Result<(), Fail> {
-    let words = shared(rt.alloc(), "red")?;
-    expect(are_two_of(&words, "red"))
+/// What isn't so of refusals.
+pub(super) fn failing(alloc: Global) -> Result<Option<&'static str>, Refusal> {
+    if !are_two_of(&shared(alloc, "red")?, "red") {
+        return Ok(Some("words are shared by a bare question mark"));
+    }
+    Ok(shown_otherwise(alloc, SHOWN)?)
 }

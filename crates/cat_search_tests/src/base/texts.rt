@@ -1,5 +1,5 @@
 //! Texts and sets of texts.
-use crate::verdict::{expect, expect_none, expect_yes};
+use crate::verdict::expect_none;
 use cat_base::{SHORT_BYTES, Text, TextSet};
 use std::alloc::{AllocError, Global};
 use std::cmp::Ordering;
@@ -61,6 +61,8 @@ enum Case<'a> {
     Shown(&'a str, &'a str),
     /// A text is kept as it is.
     Kept(&'a str),
+    /// A text is short, and is copied.
+    Short(&'a str),
 }
 
 /// Texts compare by bytes: "Z" is 5a, "a" is 61, and "é" begins with c3. 16 bytes lie in the value, and 17 in memory of their own.
@@ -85,17 +87,36 @@ const CASES: &[Case<'static>] = &[
     Case::Kept("fifteen bytes: é"),
 ];
 
+/// Whether the letters are few, and those of a text of them and of its copy.
+fn is_short(alloc: Global, letters: &str) -> Result<bool, AllocError> {
+    let text = Text::from_str(alloc, letters)?;
+    Ok(letters.len() <= SHORT_BYTES && is_copied(&text, letters)?)
+}
+
 /// Whether it is so.
 fn is_so(alloc: Global, case: &Case<'_>) -> Result<bool, AllocError> {
     match *case {
         Case::Compare(one, other, want) => spelled_compare_so(alloc, &(one, other, want)),
         Case::Shown(letters, want) => are_shown(alloc, letters, want),
         Case::Kept(letters) => is_kept(alloc, letters),
+        Case::Short(letters) => is_short(alloc, letters),
+    }
+}
+
+/// The text that is tried.
+fn text_of(case: &Case<'static>) -> &'static str {
+    match *case {
+        Case::Compare(text, _, _) | Case::Shown(text, _) | Case::Kept(text) | Case::Short(text) => {
+            text
+        }
     }
 }
 
 /// The first text that isn't so.
-fn failing(alloc: Global, cases: &[Case<'static>]) -> Result<Option<&'static str>, AllocError> {
+fn told_otherwise(
+    alloc: Global,
+    cases: &[Case<'static>],
+) -> Result<Option<&'static str>, AllocError> {
     for case in cases {
         if !is_so(alloc, case)? {
             return Ok(Some(text_of(case)));
@@ -104,39 +125,16 @@ fn failing(alloc: Global, cases: &[Case<'static>]) -> Result<Option<&'static str
     Ok(None)
 }
 
-/// The text that is tried.
-fn text_of(case: &Case<'static>) -> &'static str {
-    match *case {
-        Case::Compare(text, _, _) | Case::Shown(text, _) | Case::Kept(text) => text,
-    }
-}
-
-#[test]
-fn texts_compare_are_shown_and_are_kept(rt: HostRuntime) -> Result<(), Fail> {
-    expect_none(failing(rt.alloc(), CASES))
-}
-
-/// Whether the letters are few, and those of a text of them and of its copy.
-fn is_short(alloc: Global, letters: &str) -> Result<bool, AllocError> {
-    let text = Text::from_str(alloc, letters)?;
-    Ok(letters.len() <= SHORT_BYTES && is_copied(&text, letters)?)
-}
-
-/// The same of each text.
-fn are_short(alloc: Global, texts: &[&str]) -> Result<bool, AllocError> {
-    for text in texts {
-        if !is_short(alloc, text)? {
-            return Ok(false);
-        }
-    }
-    Ok(true)
-}
-
 // `rt try --test --fail-alloc N` makes the Nth allocation of each test fail. This test has to pass at every N: it makes none.
 #[test]
 fn short_texts_take_no_memory(rt: HostRuntime) -> Result<(), Fail> {
-    const TEXTS: &[&str] = &["", "a", "ten bytes ééé", "sixteen letters:"];
-    expect_yes(are_short(rt.alloc(), TEXTS))
+    const TEXTS: &[Case<'static>] = &[
+        Case::Short(""),
+        Case::Short("a"),
+        Case::Short("ten bytes ééé"),
+        Case::Short("sixteen letters:"),
+    ];
+    expect_none(told_otherwise(rt.alloc(), TEXTS))
 }
 
 // Each text, and whether it is in the set of "a" and "b".
@@ -190,8 +188,13 @@ fn has_each_once(alloc: Global) -> Result<bool, AllocError> {
     are_a_and_b(alloc, &words)
 }
 
-#[test]
-fn a_set_has_each_text_once(rt: HostRuntime) -> Result<(), Fail> {
-    expect(has_nothing(&TextSet::new(rt.alloc())))?;
-    expect_yes(has_each_once(rt.alloc()))
+/// What isn't so of texts and sets.
+pub(super) fn failing(alloc: Global) -> Result<Option<&'static str>, AllocError> {
+    if !has_nothing(&TextSet::new(alloc)) {
+        return Ok(Some("a new set has nothing"));
+    }
+    if !has_each_once(alloc)? {
+        return Ok(Some("a set has each text once"));
+    }
+    told_otherwise(alloc, CASES)
 }

@@ -1,7 +1,7 @@
 //! A system for tests: it writes two bytes at a time, notes what is synced and how many files are open, and fails where it is
 //! told to.
 use cat_directory::Lockable;
-use std::alloc::{Allocator, Global};
+use std::alloc::{AllocError, Allocator, Global};
 use std::cell::Cell;
 use std::fs::{Files, Metadata, OpenFile, OpenOptions, Permissions, TryLockError};
 use std::io;
@@ -48,6 +48,14 @@ impl Notes {
         }
     }
 
+    /// The error that a call meets which does this, if one does.
+    fn met(&self, doing: Doing) -> Option<io::Error> {
+        match self.fault.get() {
+            Some((failing, kind)) if failing == doing => Some(error_of(kind)),
+            _ => None,
+        }
+    }
+
     /// A file was opened.
     fn opened(&self) {
         let open = self.open.get().saturating_add(1);
@@ -72,8 +80,19 @@ const NAMES: &[u8] = b"_1.seg\0\xff\xfe\0_2.sto\0";
 /// A system over the true one.
 #[derive(Clone, Drop)]
 pub(crate) struct FaultySystem<R> {
-    pub(crate) rt: R,
+    rt: R,
     pub(crate) notes: Rc<Notes>,
+}
+
+impl<R: AllocGlobal + Clone> FaultySystem<R> {
+    /// A system over this one, in which nothing fails and nothing was done.
+    pub(crate) fn over(rt: &R) -> Result<Self, AllocError> {
+        let notes = Rc::new(rt.alloc(), Notes::new())?;
+        Ok(FaultySystem {
+            rt: rt.clone()?,
+            notes,
+        })
+    }
 }
 
 pub(crate) struct FaultyFile<F> {
@@ -104,8 +123,10 @@ impl Read for Names {
     fn read(&mut self, buf: &mut [u8]) -> io::Result<usize> {
         let count = NAMES.len();
         if self.is_read || buf.len() < count {
-            meet(&self.notes, Doing::Listing)?;
-            return Ok(0);
+            return match self.notes.met(Doing::Listing) {
+                Some(error) => Err(error),
+                None => Ok(0),
+            };
         }
         self.is_read = true;
         buf[..count].copy_from_slice(NAMES);
@@ -124,13 +145,6 @@ fn error_of(kind: ErrorKind) -> io::Error {
     }
 }
 
-fn meet(notes: &Notes, doing: Doing) -> io::Result<()> {
-    match notes.fault.get() {
-        Some((failing, kind)) if failing == doing => Err(error_of(kind)),
-        _ => Ok(()),
-    }
-}
-
 fn mark_of(path: &str) -> u8 {
     if path.ends_with(".seg") {
         1
@@ -143,24 +157,24 @@ fn mark_of(path: &str) -> u8 {
 
 impl<F: Read> Read for FaultyFile<F> {
     fn read(&mut self, buf: &mut [u8]) -> io::Result<usize> {
-        meet(&self.notes, Doing::Reading)?;
-        self.file.read(buf)
+        match self.notes.met(Doing::Reading) {
+            Some(error) => Err(error),
+            None => self.file.read(buf),
+        }
     }
 
     // This and what a seek needn't do are passed on: left out, they would be proved from their defaults, which takes longer.
     fn read_exact(&mut self, buf: &mut [u8]) -> io::Result<()> {
-        meet(&self.notes, Doing::Reading)?;
-        self.file.read_exact(buf)
+        match self.notes.met(Doing::Reading) {
+            Some(error) => Err(error),
+            None => self.file.read_exact(buf),
+        }
     }
 }
 
 impl<F: Write> Write for FaultyFile<F> {
     fn write(&mut self, buf: &[u8]) -> io::Result<usize> {
-        if buf.len() > 2 {
-            self.file.write(&buf[..2])
-        } else {
-            self.file.write(buf)
-        }
+        self.file.write(&buf[..buf.len().min(2)])
     }
 
     fn flush(&mut self) -> io::Result<()> {
@@ -192,9 +206,13 @@ impl<F: OpenFile> OpenFile for FaultyFile<F> {
     }
 
     fn sync_all(&self) -> io::Result<()> {
-        meet(&self.notes, Doing::Syncing)?;
-        self.notes.synced_too(self.mark);
-        self.file.sync_all()
+        match self.notes.met(Doing::Syncing) {
+            Some(error) => Err(error),
+            None => {
+                self.notes.synced_too(self.mark);
+                self.file.sync_all()
+            }
+        }
     }
 
     fn sync_data(&self) -> io::Result<()> {
@@ -204,10 +222,10 @@ impl<F: OpenFile> OpenFile for FaultyFile<F> {
 
 /// What a lock is answered where nobody else asks for it.
 fn locked(notes: &Notes) -> Result<(), TryLockError> {
-    match meet(notes, Doing::Locking) {
-        Ok(()) => Ok(()),
-        Err(error) if error.kind() == ErrorKind::WouldBlock => Err(TryLockError::WouldBlock),
-        Err(error) => Err(TryLockError::Error(error)),
+    match notes.met(Doing::Locking) {
+        None => Ok(()),
+        Some(error) if error.kind() == ErrorKind::WouldBlock => Err(TryLockError::WouldBlock),
+        Some(error) => Err(TryLockError::Error(error)),
     }
 }
 
@@ -218,6 +236,17 @@ impl<F> Lockable for FaultyFile<F> {
 
     fn try_lock_shared(&self) -> Result<(), TryLockError> {
         locked(&self.notes)
+    }
+}
+
+/// A file that was opened is noted.
+fn noted<F>(opened: io::Result<F>, notes: Rc<Notes>, mark: u8) -> io::Result<FaultyFile<F>> {
+    match opened {
+        Ok(file) => {
+            notes.opened();
+            Ok(FaultyFile { file, notes, mark })
+        }
+        Err(error) => Err(error),
     }
 }
 
@@ -235,23 +264,23 @@ impl<R: Files> Files for FaultySystem<R> {
     type Dir = Names;
 
     fn open_file(&self, how: &OpenOptions, path: &str) -> io::Result<FaultyFile<R::File>> {
-        meet(&self.notes, Doing::Opening)?;
-        let file = self.rt.open_file(how, path)?;
-        let notes = self.notes.clone()?;
-        notes.opened();
-        Ok(FaultyFile {
-            file,
-            notes,
-            mark: mark_of(path),
-        })
+        match self.notes.met(Doing::Opening) {
+            Some(error) => Err(error),
+            None => {
+                let notes = self.notes.clone()?;
+                noted(self.rt.open_file(how, path), notes, mark_of(path))
+            }
+        }
     }
 
     fn open_dir(&self, _path: &str) -> io::Result<Names> {
-        meet(&self.notes, Doing::Opening)?;
-        Ok(Names {
-            is_read: false,
-            notes: self.notes.clone()?,
-        })
+        match self.notes.met(Doing::Opening) {
+            Some(error) => Err(error),
+            None => Ok(Names {
+                is_read: false,
+                notes: self.notes.clone()?,
+            }),
+        }
     }
 
     fn metadata(&self, path: &str) -> io::Result<Metadata> {
@@ -259,8 +288,10 @@ impl<R: Files> Files for FaultySystem<R> {
     }
 
     fn symlink_metadata(&self, path: &str) -> io::Result<Metadata> {
-        meet(&self.notes, Doing::Asking)?;
-        self.rt.symlink_metadata(path)
+        match self.notes.met(Doing::Asking) {
+            Some(error) => Err(error),
+            None => self.rt.symlink_metadata(path),
+        }
     }
 
     fn copy(&self, from: &str, to: &str) -> io::Result<u64> {
@@ -272,8 +303,10 @@ impl<R: Files> Files for FaultySystem<R> {
     }
 
     fn remove_file(&self, path: &str) -> io::Result<()> {
-        meet(&self.notes, Doing::Removing)?;
-        self.rt.remove_file(path)
+        match self.notes.met(Doing::Removing) {
+            Some(error) => Err(error),
+            None => self.rt.remove_file(path),
+        }
     }
 
     fn create_dir(&self, path: &str) -> io::Result<()> {

@@ -1,208 +1,236 @@
 //! Memory and a folder, and what lies in a folder beside files.
 use crate::directory::calls::{
-    Call, FIRST, ROWS, Row, all_answered, are_answered, is_read_so, make_folder, remove_folder,
+    Call, FIRST, GIVES, NO_30, NO_31, NO_FORM, ROWS, Row, are_answered, is_made, look, removed,
 };
-use crate::verdict::{expect, expect_none, expect_passed, expect_yes};
-use cat_base::Refusal;
-use cat_directory::{Directory, FileName, Folder, FolderShelf, MemoryDirectory, Shelf};
-use std::alloc::Global;
+use crate::verdict::expect_none;
+use cat_directory::{FileName, Folder, FolderShelf, Holder, MemoryDirectory, Shelf};
+use std::alloc::{AllocError, Global};
 use std::fs;
 use std::fs::{Files, OpenOptions};
 use std::os::unix::fs::symlink;
 use std::test::Fail;
 
-/// Whether the calls of the tables are answered so in the folder at the path.
-fn answers_in<R: Files + AllocGlobal + Clone + Drop>(
+/// The folder of the cases, which is made anew for each.
+const PLACE: &str = "files_test";
+
+/// What is tried.
+#[derive(Clone, Copy)]
+enum Step<'a> {
+    /// The calls are answered so by memory without a file, and so many fail.
+    Memory(&'a [Row<'a>], u64),
+    /// A copy of memory has files of its own.
+    Copy,
+    /// The calls are answered so in the folder at the path, and so many fail.
+    Calls(&'a str, &'a [Row<'a>], u64),
+    /// A folder is made at the path.
+    Make(&'a str),
+    /// The text is written to the path.
+    Put(&'a str, &'a str),
+    /// The text is what the file at the path has.
+    Has(&'a str, &'a str),
+    /// A link is made to the first path, at the second.
+    Link(&'a str, &'a str),
+    /// The file that may only be read stays as it is.
+    HeldBack,
+    /// A shelf reads the file of the folder, and then what is left of it.
+    Cut,
+}
+
+/// What a case shows, and its steps.
+type Case = (&'static str, &'static [Step<'static>]);
+
+/// Whether the calls are answered so in the folder at the path, and so many fail.
+fn is_answered_in<R: Files + AllocGlobal + Clone + Drop>(
     rt: &R,
     path: &str,
-    tables: &[&[Row<'_>]],
-) -> Result<bool, Refusal> {
+    rows: &[Row<'_>],
+    failures: u64,
+) -> Result<bool, AllocError> {
     let mut folder = Folder::at(rt.clone()?, rt.alloc(), path)?;
-    all_answered(rt.alloc(), &mut folder, tables)
+    Ok(are_answered(rt.alloc(), &mut folder, rows) && folder.failures() == failures)
 }
 
-const FOUR_FAILURES: &[Row<'static>] = &[(Call::Failures, "4")];
-
-/// The calls, and how many have failed.
-const TABLES: &[&[Row<'static>]] = &[ROWS, FOUR_FAILURES];
-
-/// A file that is there is made and written anew.
-const ANEW: &[&[Row<'static>]] = &[&[
-    (Call::Create(FIRST), ""),
-    (Call::Append(FIRST, "before"), ""),
-    (Call::Create(FIRST), ""),
-    (Call::Size(FIRST), "0"),
-    (Call::Write(FIRST, "one"), ""),
-    (Call::WriteLasting(FIRST, "whole"), ""),
-    (Call::Read(FIRST, 0, 5), "whole"),
-    (Call::Size(FIRST), "5"),
-    (Call::Failures, "0"),
-]];
-
-/// A file that is there stays as it is, until it is deleted.
-const NOT_ANEW: &[&[Row<'static>]] = &[&[
-    (Call::Create(FIRST), ""),
-    (Call::Append(FIRST, "before"), ""),
-    (Call::Create(FIRST), "NO 30"),
-    (Call::Write(FIRST, "one"), "NO 30"),
-    (Call::WriteLasting(FIRST, "whole"), "NO 30"),
-    (Call::Read(FIRST, 0, 6), "before"),
-    (Call::Size(FIRST), "6"),
-    (Call::Failures, "3"),
-    (Call::Delete(FIRST), ""),
-    (Call::WriteLasting(FIRST, "whole"), ""),
-    (Call::Read(FIRST, 0, 5), "whole"),
-    (Call::Failures, "3"),
-]];
-
-/// What is read of a file is what it has then, whatever was read of it before.
-const READ_AGAIN: &[&[Row<'static>]] = &[&[
-    (Call::Create(FIRST), ""),
-    (Call::Append(FIRST, "one"), ""),
-    (Call::Read(FIRST, 0, 3), "one"),
-    (Call::Append(FIRST, " two"), ""),
-    (Call::Read(FIRST, 0, 7), "one two"),
-    (Call::Size(FIRST), "7"),
-    (Call::Delete(FIRST), ""),
-    (Call::Create(FIRST), ""),
-    (Call::Size(FIRST), "0"),
-    (Call::Read(FIRST, 0, 1), "NO 31"),
-    (Call::Append(FIRST, "six"), ""),
-    (Call::Read(FIRST, 0, 3), "six"),
-    (Call::Delete(FIRST), ""),
-    (Call::Read(FIRST, 0, 3), "NO 31"),
-    (Call::Size(FIRST), "NO 31"),
-]];
-
-/// Whether 70 files are written and read, one behind the other.
-fn are_written<D: Directory + Shelf>(alloc: Global, device: &mut D) -> Result<bool, Refusal> {
-    for number in 1..=70 {
-        let name = FileName::Segment(number);
-        let rows = [
-            (Call::Create(name), ""),
-            (Call::Append(name, "x"), ""),
-            (Call::Read(name, 0, 1), "x"),
-        ];
-        if !are_answered(alloc, device, &rows)? {
-            return Ok(false);
-        }
-    }
-    Ok(true)
+/// The same by memory.
+fn is_answered_by_memory(alloc: Global, rows: &[Row<'_>], failures: u64) -> bool {
+    let mut memory = MemoryDirectory::new(alloc);
+    are_answered(alloc, &mut memory, rows) && memory.failures() == failures
 }
 
-/// Whether each of them is read once more.
-fn are_read<D: Directory + Shelf>(alloc: Global, device: &mut D) -> Result<bool, Refusal> {
-    for number in 1..=70 {
-        if !is_read_so(alloc, device, (FileName::Segment(number), 0, 1), "x")? {
-            return Ok(false);
-        }
-    }
-    Ok(true)
-}
-
-/// Whether more files are written and read than stay open, and then each is read once more.
-fn are_written_and_read<D: Directory + Shelf>(
-    alloc: Global,
-    device: &mut D,
-) -> Result<bool, Refusal> {
-    Ok(are_written(alloc, device)? && are_read(alloc, device)?)
-}
-
-/// The same in the folder at the path.
-fn are_read_in_turn<R: Files + AllocGlobal + Clone + Drop>(
-    rt: &R,
-    path: &str,
-) -> Result<bool, Refusal> {
-    let mut folder = Folder::at(rt.clone()?, rt.alloc(), path)?;
-    are_written_and_read(rt.alloc(), &mut folder)
-}
-
-/// What a case shows, and the calls.
-type Case = (&'static str, &'static [&'static [Row<'static>]]);
-
-const IN_MEMORY: &[Case] = &[
-    ("memory answers as a folder does", TABLES),
-    ("memory makes a file anew", ANEW),
+const ONE: &[Row<'static>] = &[
+    (Call::Create(FIRST), GIVES),
+    (Call::Append(FIRST, "one"), GIVES),
 ];
-
-/// The first case of which a call is answered otherwise by memory.
-fn failing_in_memory(alloc: Global, cases: &[Case]) -> Result<Option<&'static str>, Refusal> {
-    for &(name, tables) in cases {
-        if !all_answered(alloc, &mut MemoryDirectory::new(alloc), tables)? {
-            return Ok(Some(name));
-        }
-    }
-    Ok(None)
-}
-
-#[test]
-fn memory_answers(rt: HostRuntime) -> Result<(), Fail> {
-    expect_none(failing_in_memory(rt.alloc(), IN_MEMORY))
-}
-
-const IN_A_FOLDER: &[Case] = &[
-    ("a folder answers as memory does", TABLES),
-    ("a folder makes no file anew", NOT_ANEW),
-    ("a file that is open is read as it is", READ_AGAIN),
-];
-
-/// The first case of which a call is answered otherwise in a new folder at the path.
-fn failing_in_folder<R: Files + AllocGlobal + Clone + Drop>(
-    rt: &R,
-    path: &str,
-    cases: &[Case],
-) -> Result<Option<&'static str>, Fail> {
-    for &(name, tables) in cases {
-        make_folder(rt, path)?;
-        if !answers_in(rt, path, tables)? {
-            return Ok(Some(name));
-        }
-    }
-    Ok(None)
-}
-
-#[test]
-fn a_folder_answers(rt: HostRuntime) -> Result<(), Fail> {
-    expect_passed(failing_in_folder(&rt, "files_test", IN_A_FOLDER)?)?;
-    remove_folder(&rt, "files_test")
-}
-
-#[test]
-fn more_files_are_read_than_stay_open(rt: HostRuntime) -> Result<(), Fail> {
-    make_folder(&rt, "many_test")?;
-    expect_yes(are_read_in_turn(&rt, "many_test"))?;
-    remove_folder(&rt, "many_test")
-}
-
-const ONE: &[Row<'static>] = &[(Call::Create(FIRST), ""), (Call::Append(FIRST, "one"), "")];
 
 const ONE_MORE: &[Row<'static>] = &[
-    (Call::Append(FIRST, " two"), ""),
-    (Call::Read(FIRST, 0, 7), "one two"),
+    (Call::Append(FIRST, " two"), GIVES),
+    (Call::Read(FIRST, 0, 7, "one two"), GIVES),
 ];
 
-const STILL_ONE: &[Row<'static>] = &[(Call::Size(FIRST), "3")];
+const STILL_ONE: &[Row<'static>] = &[(Call::Size(FIRST, 3), GIVES)];
 
 /// Whether a copy of the directory gets more, and the directory doesn't.
-fn is_copied(alloc: Global, memory: &mut MemoryDirectory) -> Result<bool, Refusal> {
+fn is_copied(alloc: Global, memory: &mut MemoryDirectory) -> Result<bool, AllocError> {
     let mut copy = memory.copy()?;
-    Ok(are_answered(alloc, &mut copy, ONE_MORE)? && are_answered(alloc, memory, STILL_ONE)?)
+    Ok(are_answered(alloc, &mut copy, ONE_MORE) && are_answered(alloc, memory, STILL_ONE))
+}
+
+/// The same of one with a file.
+fn has_copies(alloc: Global) -> Result<bool, AllocError> {
+    let mut memory = MemoryDirectory::new(alloc);
+    Ok(are_answered(alloc, &mut memory, ONE) && is_copied(alloc, &mut memory)?)
+}
+
+/// Whether the file at the path has the text.
+fn has_text(rt: &(impl Files + Alloc), path: &str, text: &str) -> bool {
+    match fs::read_to_string(rt, path) {
+        Ok(held) => held.as_str() == text,
+        Err(_) => false,
+    }
+}
+
+/// Where the first file lies.
+const FIRST_PATH: &str = "files_test/_1.seg";
+
+/// Whether nobody may write to the first file from now on.
+fn is_read_only(rt: &impl Files) -> bool {
+    match fs::metadata(rt, FIRST_PATH) {
+        Ok(metadata) => {
+            let mut permissions = metadata.permissions();
+            permissions.set_readonly(true);
+            fs::set_permissions(rt, FIRST_PATH, permissions).is_ok()
+        }
+        Err(_) => false,
+    }
+}
+
+/// The calls that are answered so then. No permission holds root back, as whom `rt ci` runs no test.
+fn held_back(rt: &impl Files) -> (&'static [Row<'static>], u64) {
+    let is_root = OpenOptions::new().append(true).open(rt, FIRST_PATH).is_ok();
+    if is_root {
+        (AS_ROOT, 1)
+    } else {
+        (HELD_BACK, 2)
+    }
+}
+
+/// Whether they are.
+fn is_held_back<R: Files + AllocGlobal + Clone + Drop>(rt: &R) -> Result<bool, AllocError> {
+    let is_read_only = is_read_only(rt);
+    let (rows, failures) = held_back(rt);
+    Ok(is_read_only && is_answered_in(rt, PLACE, rows, failures)?)
+}
+
+/// Whether the shelf reads the file of the folder, and then the three bytes that are left of it, and no more.
+fn is_read_then_cut<S: Shelf>(rt: &impl Files, alloc: Global, shelf: &mut S) -> bool {
+    look(alloc, shelf, Call::Read(FIRST, 1, 3, "hol")) == GIVES
+        && fs::write(rt, FIRST_PATH, "cut").is_ok()
+        && look(alloc, shelf, Call::Read(FIRST, 0, 5, "")) == NO_31
+        && look(alloc, shelf, Call::Size(FIRST, 3)) == GIVES
+}
+
+/// The same of the shelf of the folder.
+fn is_cut<R: Files + AllocGlobal + Clone + Drop>(rt: &R) -> Result<bool, AllocError> {
+    let mut shelf = FolderShelf::at(rt.clone()?, rt.alloc(), PLACE)?;
+    Ok(is_read_then_cut(rt, rt.alloc(), &mut shelf))
+}
+
+/// Takes the step, and tells whether all is so.
+fn is_so<R: Files + AllocGlobal + Clone + Drop>(
+    rt: &R,
+    step: Step<'_>,
+) -> Result<bool, AllocError> {
+    match step {
+        Step::Memory(rows, failures) => Ok(is_answered_by_memory(rt.alloc(), rows, failures)),
+        Step::Copy => has_copies(rt.alloc()),
+        Step::Calls(path, rows, failures) => is_answered_in(rt, path, rows, failures),
+        Step::Make(path) => Ok(is_made(rt, path)),
+        Step::Put(path, text) => Ok(fs::write(rt, path, text).is_ok()),
+        Step::Has(path, text) => Ok(has_text(rt, path, text)),
+        Step::Link(to, path) => Ok(symlink(rt, to, path).is_ok()),
+        Step::HeldBack => is_held_back(rt),
+        Step::Cut => is_cut(rt),
+    }
+}
+
+/// The same of the steps in turn.
+fn are_so<R: Files + AllocGlobal + Clone + Drop>(
+    rt: &R,
+    steps: &[Step<'_>],
+) -> Result<bool, AllocError> {
+    for step in steps {
+        if !is_so(rt, *step)? {
+            return Ok(false);
+        }
+    }
+    Ok(true)
+}
+
+/// The first case that isn't so.
+fn failing<R: Files + AllocGlobal + Clone + Drop>(
+    rt: &R,
+    cases: &[Case],
+) -> Result<Option<&'static str>, AllocError> {
+    for &(name, steps) in cases {
+        if !is_made(rt, PLACE) || !are_so(rt, steps)? {
+            return Ok(Some(name));
+        }
+    }
+    Ok(removed(rt, PLACE))
 }
 
 #[test]
-fn a_copy_has_files_of_its_own(rt: HostRuntime) -> Result<(), Fail> {
-    let alloc = rt.alloc();
-    let mut memory = MemoryDirectory::new(alloc);
-    expect(are_answered(alloc, &mut memory, ONE)? && is_copied(alloc, &mut memory)?)
+fn memory_and_folders_answer(rt: HostRuntime) -> Result<(), Fail> {
+    expect_none(failing(&rt, CASES))
 }
 
-/// Files that have no name of ours.
-const OTHERS: &[&str] = &[
-    "others_test/notes.txt",
-    "others_test/_01.seg",
-    "others_test/_1.seg.tmp",
-    "others_test/segments_9223372036854775808",
+/// A file that is there is made and written anew.
+const ANEW: &[Row<'static>] = &[
+    (Call::Create(FIRST), GIVES),
+    (Call::Append(FIRST, "before"), GIVES),
+    (Call::Create(FIRST), GIVES),
+    (Call::Size(FIRST, 0), GIVES),
+    (Call::Write(FIRST, "one"), GIVES),
+    (Call::WriteLasting(FIRST, "whole"), GIVES),
+    (Call::Read(FIRST, 0, 5, "whole"), GIVES),
+    (Call::Size(FIRST, 5), GIVES),
 ];
+
+/// A file that is there stays as it is, until it is deleted.
+const NOT_ANEW: &[Row<'static>] = &[
+    (Call::Create(FIRST), GIVES),
+    (Call::Append(FIRST, "before"), GIVES),
+    (Call::Create(FIRST), NO_30),
+    (Call::Write(FIRST, "one"), NO_30),
+    (Call::WriteLasting(FIRST, "whole"), NO_30),
+    (Call::Read(FIRST, 0, 6, "before"), GIVES),
+    (Call::Size(FIRST, 6), GIVES),
+    (Call::Failures(3), GIVES),
+    (Call::Delete(FIRST), GIVES),
+    (Call::WriteLasting(FIRST, "whole"), GIVES),
+    (Call::Read(FIRST, 0, 5, "whole"), GIVES),
+];
+
+/// What is read of a file is what it has then, whatever was read of it before.
+const READ_AGAIN: &[Row<'static>] = &[
+    (Call::Create(FIRST), GIVES),
+    (Call::Append(FIRST, "one"), GIVES),
+    (Call::Read(FIRST, 0, 3, "one"), GIVES),
+    (Call::Append(FIRST, " two"), GIVES),
+    (Call::Read(FIRST, 0, 7, "one two"), GIVES),
+    (Call::Size(FIRST, 7), GIVES),
+    (Call::Delete(FIRST), GIVES),
+    (Call::Create(FIRST), GIVES),
+    (Call::Size(FIRST, 0), GIVES),
+    (Call::Read(FIRST, 0, 1, ""), NO_31),
+    (Call::Append(FIRST, "six"), GIVES),
+    (Call::Read(FIRST, 0, 3, "six"), GIVES),
+    (Call::Delete(FIRST), GIVES),
+    (Call::Read(FIRST, 0, 3, ""), NO_31),
+    (Call::Size(FIRST, 0), NO_31),
+];
+
+/// More files than stay open.
+const MANY: &[Row<'static>] = &[(Call::Many, GIVES)];
 
 /// A folder that has a file's name.
 const TAKEN: FileName = FileName::Segment(9);
@@ -210,156 +238,111 @@ const TAKEN: FileName = FileName::Segment(9);
 /// No file has this name.
 const NO_NUMBER: FileName = FileName::Segment(0);
 
-const BESIDE_OTHERS: &[&[Row<'static>]] = &[&[
-    (Call::Names, ""),
-    (Call::Create(TAKEN), "NO 30"),
-    (Call::Append(TAKEN, "x"), "NO 30"),
-    (Call::Size(TAKEN), "NO 31"),
-    (Call::Read(TAKEN, 0, 0), "NO 31"),
-    (Call::Delete(TAKEN), "NO 30"),
-    (Call::Create(NO_NUMBER), "no form"),
-    (Call::Append(NO_NUMBER, "x"), "NO 30"),
-    (Call::Size(NO_NUMBER), "NO 31"),
-    (Call::Create(FIRST), ""),
-    (Call::Append(FIRST, "whole"), ""),
-    (Call::Names, "_1.seg "),
-    (Call::Failures, "4"),
-]];
+const BESIDE_OTHERS: &[Row<'static>] = &[
+    (Call::Names(&[]), GIVES),
+    (Call::Create(TAKEN), NO_30),
+    (Call::Append(TAKEN, "x"), NO_30),
+    (Call::Size(TAKEN, 0), NO_31),
+    (Call::Read(TAKEN, 0, 0, ""), NO_31),
+    (Call::Delete(TAKEN), NO_30),
+    (Call::Create(NO_NUMBER), NO_FORM),
+    (Call::Append(NO_NUMBER, "x"), NO_30),
+    (Call::Size(NO_NUMBER, 0), NO_31),
+    (Call::Create(FIRST), GIVES),
+    (Call::Append(FIRST, "whole"), GIVES),
+    (Call::Names(&[FIRST]), GIVES),
+];
 
-fn make_others(rt: &(impl Files + Alloc)) -> Result<(), Fail> {
-    make_folder(rt, "others_test")?;
-    fs::create_dir(rt, "others_test/_9.seg")?;
-    for &path in OTHERS {
-        fs::write(rt, path, "kept")?;
-    }
-    Ok(())
-}
+/// Files that have no name of ours stay.
+const OTHERS: &[Step<'static>] = &[
+    Step::Make("files_test/_9.seg"),
+    Step::Put("files_test/notes.txt", "kept"),
+    Step::Put("files_test/_01.seg", "kept"),
+    Step::Put("files_test/_1.seg.tmp", "kept"),
+    Step::Put("files_test/segments_9223372036854775808", "kept"),
+    Step::Calls("files_test/", BESIDE_OTHERS, 4),
+    Step::Has("files_test/notes.txt", "kept"),
+    Step::Has("files_test/_01.seg", "kept"),
+    Step::Has("files_test/_1.seg.tmp", "kept"),
+    Step::Has("files_test/segments_9223372036854775808", "kept"),
+];
 
-/// Whether each of them has what was written to it.
-fn are_kept(rt: &(impl Files + Alloc)) -> Result<bool, Fail> {
-    for &path in OTHERS {
-        if fs::read_to_string(rt, path)?.as_str() != "kept" {
-            return Ok(false);
-        }
-    }
-    Ok(true)
-}
+const WHOLE: &[Row<'static>] = &[
+    (Call::Create(FIRST), GIVES),
+    (Call::Append(FIRST, "whole"), GIVES),
+];
 
-#[test]
-fn other_files_of_a_folder_stay(rt: HostRuntime) -> Result<(), Fail> {
-    make_others(&rt)?;
-    expect(answers_in(&rt, "others_test/", BESIDE_OTHERS)? && are_kept(&rt)?)?;
-    remove_folder(&rt, "others_test")
-}
+const IN_NO_FOLDER: &[Row<'static>] = &[
+    (Call::Names(&[]), NO_30),
+    (Call::Create(FIRST), NO_30),
+    (Call::Append(FIRST, "x"), NO_30),
+    (Call::Sync(&[]), NO_30),
+];
 
-const WHOLE: &[&[Row<'static>]] = &[&[
-    (Call::Create(FIRST), ""),
-    (Call::Append(FIRST, "whole"), ""),
-]];
+/// A file, what is absent, and what no path can be.
+const NO_FOLDERS: &[Step<'static>] = &[
+    Step::Put("files_test/file", "a file"),
+    Step::Calls("files_test/file", IN_NO_FOLDER, 4),
+    Step::Calls("files_test/absent", IN_NO_FOLDER, 4),
+    Step::Calls("", IN_NO_FOLDER, 4),
+    Step::Calls("nul\0", IN_NO_FOLDER, 4),
+];
 
-/// Whether three bytes are left of the file, and no more are read.
-fn is_cut<S: Shelf>(alloc: Global, shelf: &mut S) -> Result<bool, Refusal> {
-    Ok(is_read_so(alloc, shelf, (FIRST, 0, 5), "NO 31")? && shelf.size(FIRST)? == 3)
-}
+const HELD_BACK: &[Row<'static>] = &[
+    (Call::Create(FIRST), NO_30),
+    (Call::Append(FIRST, "x"), NO_30),
+    (Call::Size(FIRST, 4), GIVES),
+    (Call::Sync(&[FIRST]), GIVES),
+    (Call::Delete(FIRST), GIVES),
+    (Call::Names(&[]), GIVES),
+];
 
-/// Whether the shelf reads the file of the folder, and then what is left of it.
-fn is_read_then_cut<S: Shelf>(
-    rt: &(impl Files + Alloc),
-    alloc: Global,
-    shelf: &mut S,
-) -> Result<bool, Fail> {
-    let is_read = is_read_so(alloc, shelf, (FIRST, 1, 3), "hol")?;
-    fs::write(rt, "shelf_test/_1.seg", "cut")?;
-    Ok(is_read && is_cut(alloc, shelf)?)
-}
+const AS_ROOT: &[Row<'static>] = &[
+    (Call::Create(FIRST), NO_30),
+    (Call::Append(FIRST, "x"), GIVES),
+    (Call::Size(FIRST, 5), GIVES),
+    (Call::Sync(&[FIRST]), GIVES),
+    (Call::Delete(FIRST), GIVES),
+    (Call::Names(&[]), GIVES),
+];
 
-/// The same of the shelf of the folder.
-fn is_read_and_cut<R: Files + AllocGlobal + Clone + Drop>(rt: &R) -> Result<bool, Fail> {
-    let mut shelf = FolderShelf::at(rt.clone()?, rt.alloc(), "shelf_test")?;
-    is_read_then_cut(rt, rt.alloc(), &mut shelf)
-}
+const FULL: &[Row<'static>] = &[(Call::Append(FIRST, "x"), NO_30)];
 
-#[test]
-fn a_shelf_reads_the_files_of_its_folder(rt: HostRuntime) -> Result<(), Fail> {
-    make_folder(&rt, "shelf_test")?;
-    let is_made = answers_in(&rt, "shelf_test", WHOLE)?;
-    expect(is_made && is_read_and_cut(&rt)?)?;
-    remove_folder(&rt, "shelf_test")
-}
-
-const UNOPENED: &[&str] = &["no_folder_test", "absent_folder_test", "", "nul\0"];
-
-const IN_NO_FOLDER: &[&[Row<'static>]] = &[&[
-    (Call::Names, "NO 30"),
-    (Call::Create(FIRST), "NO 30"),
-    (Call::Append(FIRST, "x"), "NO 30"),
-    (Call::Sync(&[]), "NO 30"),
-    (Call::Failures, "4"),
-]];
-
-/// Whether each call fails at each of these paths.
-fn all_fail<R: Files + AllocGlobal + Clone + Drop>(rt: &R) -> Result<bool, Refusal> {
-    for &path in UNOPENED {
-        if !answers_in(rt, path, IN_NO_FOLDER)? {
-            return Ok(false);
-        }
-    }
-    Ok(true)
-}
-
-#[test]
-fn a_folder_that_cannot_be_opened_fails(rt: HostRuntime) -> Result<(), Fail> {
-    fs::write(&rt, "no_folder_test", "a file")?;
-    expect_yes(all_fail(&rt))?;
-    Ok(fs::remove_file(&rt, "no_folder_test")?)
-}
-
-const READ_ONLY: &str = "read_only_test/_1.seg";
-
-fn make_read_only(rt: &(impl Files + Alloc)) -> Result<(), Fail> {
-    make_folder(rt, "read_only_test")?;
-    fs::write(rt, READ_ONLY, "kept")?;
-    let mut permissions = fs::metadata(rt, READ_ONLY)?.permissions();
-    permissions.set_readonly(true);
-    Ok(fs::set_permissions(rt, READ_ONLY, permissions)?)
-}
-
-const HELD_BACK: &[&[Row<'static>]] = &[&[
-    (Call::Create(FIRST), "NO 30"),
-    (Call::Append(FIRST, "x"), "NO 30"),
-    (Call::Size(FIRST), "4"),
-    (Call::Sync(&[FIRST]), ""),
-    (Call::Delete(FIRST), ""),
-    (Call::Names, ""),
-    (Call::Failures, "2"),
-]];
-
-/// No permission holds root back, as whom `rt ci` runs no test.
-const AS_ROOT: &[&[Row<'static>]] = &[&[
-    (Call::Create(FIRST), "NO 30"),
-    (Call::Append(FIRST, "x"), ""),
-    (Call::Size(FIRST), "5"),
-    (Call::Sync(&[FIRST]), ""),
-    (Call::Delete(FIRST), ""),
-    (Call::Names, ""),
-    (Call::Failures, "1"),
-]];
-
-#[test]
-fn a_read_only_file_stays_as_it_is(rt: HostRuntime) -> Result<(), Fail> {
-    make_read_only(&rt)?;
-    let is_root = OpenOptions::new().append(true).open(&rt, READ_ONLY).is_ok();
-    let rows = if is_root { AS_ROOT } else { HELD_BACK };
-    expect_yes(answers_in(&rt, "read_only_test", rows))?;
-    remove_folder(&rt, "read_only_test")
-}
-
-const FULL: &[&[Row<'static>]] = &[&[(Call::Append(FIRST, "x"), "NO 30"), (Call::Failures, "1")]];
-
-#[test]
-fn a_full_disk_is_a_failure(rt: HostRuntime) -> Result<(), Fail> {
-    make_folder(&rt, "full_test")?;
-    symlink(&rt, "/dev/full", "full_test/_1.seg")?;
-    expect_yes(answers_in(&rt, "full_test", FULL))?;
-    remove_folder(&rt, "full_test")
-}
+const CASES: &[Case] = &[
+    ("memory answers as a folder does", &[Step::Memory(ROWS, 4)]),
+    ("memory makes a file anew", &[Step::Memory(ANEW, 0)]),
+    ("a copy has files of its own", &[Step::Copy]),
+    (
+        "a folder answers as memory does",
+        &[Step::Calls(PLACE, ROWS, 4)],
+    ),
+    (
+        "a folder makes no file anew",
+        &[Step::Calls(PLACE, NOT_ANEW, 3)],
+    ),
+    (
+        "a file that is open is read as it is",
+        &[Step::Calls(PLACE, READ_AGAIN, 0)],
+    ),
+    (
+        "more files are read than stay open",
+        &[Step::Calls(PLACE, MANY, 0)],
+    ),
+    ("other files of a folder stay", OTHERS),
+    (
+        "a shelf reads the files of its folder",
+        &[Step::Calls(PLACE, WHOLE, 0), Step::Cut],
+    ),
+    ("a folder that cannot be opened fails", NO_FOLDERS),
+    (
+        "a read-only file stays as it is",
+        &[Step::Put(FIRST_PATH, "kept"), Step::HeldBack],
+    ),
+    (
+        "a full disk is a failure",
+        &[
+            Step::Link("/dev/full", FIRST_PATH),
+            Step::Calls(PLACE, FULL, 1),
+        ],
+    ),
+];

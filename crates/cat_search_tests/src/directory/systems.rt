@@ -1,160 +1,151 @@
 //! What a folder asks of the system, and what it tells where the system fails.
-use crate::directory::calls::{Call, FIRST, Row, SOURCE, are_answered, make_folder, remove_folder};
+use crate::directory::calls::{
+    Call, FIRST, GIVES, NO_30, NO_31, NO_40, Row, SOURCE, are_answered, is_made, removed,
+};
 use crate::directory::faulty_system::{Doing, FaultySystem, Notes};
-use crate::verdict::expect_passed;
-use cat_base::Refusal;
-use cat_directory::{Directory, FileName, Folder, Shelf};
+use crate::verdict::expect_none;
+use cat_directory::{Directory, Folder, Shelf};
 use std::alloc::{AllocError, Global};
 use std::fs::Files;
 use std::io::ErrorKind;
-use std::rc::Rc;
 use std::test::Fail;
 
 /// What fails from then on, the calls that are made, and what has been synced then: 1 for a segment's file, 2 for one of sources,
 /// 4 for the folder.
 type Scene<'a> = (Option<(Doing, ErrorKind)>, &'a [Row<'a>], u8);
 
-/// Whether the calls of the scene are answered so on the device, over a system that fails as it says.
-fn is_played<D: Directory + Shelf>(
-    alloc: Global,
-    device: &mut D,
-    notes: &Notes,
-    scene: &Scene<'_>,
-) -> Result<bool, Refusal> {
-    let (fault, rows, synced) = *scene;
-    notes.fault.set(fault);
-    Ok(are_answered(alloc, device, rows)? && notes.synced.get() == synced)
-}
-
-/// The same of the scenes in turn.
+/// Whether the calls of each scene are answered so on the device, over a system that fails as it says.
 fn are_played<D: Directory + Shelf>(
     alloc: Global,
     device: &mut D,
     notes: &Notes,
     scenes: &[Scene<'_>],
-) -> Result<bool, Refusal> {
-    for scene in scenes {
-        if !is_played(alloc, device, notes, scene)? {
-            return Ok(false);
+) -> bool {
+    for &(fault, rows, synced) in scenes {
+        notes.fault.set(fault);
+        if !are_answered(alloc, device, rows) || notes.synced.get() != synced {
+            return false;
         }
     }
-    Ok(true)
+    true
 }
 
-/// The system that has these notes.
-pub(crate) fn system_of<R: Clone>(
+/// Where the folder lies.
+const PLACE: &str = "system_test";
+
+/// The same in the folder, over the system.
+fn are_played_over<R: Files + AllocGlobal + Clone + Drop>(
+    system: &FaultySystem<R>,
+    scenes: &[Scene<'_>],
+) -> Result<bool, AllocError> {
+    let mut folder = Folder::at(system.clone()?, system.alloc(), PLACE)?;
+    Ok(are_played(system.alloc(), &mut folder, &system.notes, scenes))
+}
+
+/// How many files may be open at once: as many as stay open, and one in hand.
+const MOST_OPEN: u32 = 65;
+
+/// The same of a new system, where at least so many files are open at once, and not too many.
+fn is_played<R: Files + AllocGlobal + Clone + Drop>(
     rt: &R,
-    notes: &Rc<Notes>,
-) -> Result<FaultySystem<R>, AllocError> {
-    Ok(FaultySystem {
-        rt: rt.clone()?,
-        notes: notes.clone()?,
-    })
+    scenes: &[Scene<'_>],
+    open: u32,
+) -> Result<bool, AllocError> {
+    let system = FaultySystem::over(rt)?;
+    let are_played = are_played_over(&system, scenes)?;
+    let most = system.notes.most_open.get();
+    Ok(are_played && open <= most && most <= MOST_OPEN)
 }
 
-/// What is done in a folder over a system for tests.
-#[derive(Clone, Copy)]
-enum Job<'a> {
-    /// These calls are made.
-    Scenes(&'a [Scene<'a>]),
-    /// More files are read than stay open.
-    Many,
-}
+/// What it shows, what happens, and how many files are open at once, at least.
+type Case = (&'static str, &'static [Scene<'static>], u32);
 
-/// Does the job on the device, and tells whether all was answered so.
-fn do_job<D: Directory + Shelf>(
-    alloc: Global,
-    device: &mut D,
-    notes: &Notes,
-    job: Job<'_>,
-) -> Result<bool, Refusal> {
-    match job {
-        Job::Scenes(scenes) => are_played(alloc, device, notes, scenes),
-        Job::Many => are_few(alloc, device, notes),
+const CASES: &[Case] = &[
+    ("a folder asks the system for all it needs", SYNCED, 0),
+    ("each error of the system is told as it is", KINDS, 0),
+    ("after a failed sync none succeeds", FAILED_SYNC, 0),
+    (
+        "after a failed sync of the folder none succeeds",
+        FAILED_FOLDER_SYNC,
+        0,
+    ),
+    ("a listing that fails is no list", FAILED_LISTING, 0),
+    ("a denied delete is a failure", DENIED_DELETE, 0),
+    ("few files are open at once", MANY, MOST_OPEN),
+];
+
+/// The first case that isn't so, each in a folder of its own.
+fn failing<R: Files + AllocGlobal + Clone + Drop>(
+    rt: &R,
+    cases: &[Case],
+) -> Result<Option<&'static str>, AllocError> {
+    for &(name, scenes, open) in cases {
+        if !is_made(rt, PLACE) || !is_played(rt, scenes, open)? {
+            return Ok(Some(name));
+        }
     }
+    Ok(removed(rt, PLACE))
 }
 
-/// The same in the folder at the path, over the system that has these notes.
-fn do_job_with<R: Files + AllocGlobal + Clone + Drop>(
-    rt: &R,
-    path: &str,
-    notes: &Rc<Notes>,
-    job: Job<'_>,
-) -> Result<bool, Refusal> {
-    let mut folder = Folder::at(system_of(rt, notes)?, rt.alloc(), path)?;
-    do_job(rt.alloc(), &mut folder, notes, job)
-}
-
-/// The same in the folder at the path, in a system that fails as the job says.
-fn do_job_in<R: Files + AllocGlobal + Clone + Drop>(
-    rt: &R,
-    path: &str,
-    job: Job<'_>,
-) -> Result<bool, Refusal> {
-    let notes = Rc::new(rt.alloc(), Notes::new())?;
-    do_job_with(rt, path, &notes, job)
-}
-
-/// The same in a new folder, which is taken away then.
-fn is_done<R: Files + AllocGlobal + Clone + Drop>(
-    rt: &R,
-    path: &str,
-    job: Job<'_>,
-) -> Result<bool, Fail> {
-    make_folder(rt, path)?;
-    let is_done = do_job_in(rt, path, job)?;
-    remove_folder(rt, path)?;
-    Ok(is_done)
+#[test]
+fn a_folder_asks_the_system_and_tells_what_it_is_told(rt: HostRuntime) -> Result<(), Fail> {
+    expect_none(failing(&rt, CASES))
 }
 
 /// Short writes are carried on, and a name that isn't UTF-8 is passed over.
 const WHOLE: &[Row<'static>] = &[
-    (Call::Create(FIRST), ""),
-    (Call::Create(SOURCE), ""),
-    (Call::Append(FIRST, "hello you"), ""),
-    (Call::Read(FIRST, 0, 9), "hello you"),
-    (Call::Names, "_1.seg _2.sto "),
+    (Call::Create(FIRST), GIVES),
+    (Call::Create(SOURCE), GIVES),
+    (Call::Append(FIRST, "hello you"), GIVES),
+    (Call::Read(FIRST, 0, 9, "hello you"), GIVES),
+    (Call::Names(&[FIRST, SOURCE]), GIVES),
 ];
 
-const SYNC_NONE: &[Row<'static>] = &[(Call::Sync(&[]), "")];
+const SYNC_NONE: &[Row<'static>] = &[(Call::Sync(&[]), GIVES)];
 
-const SYNC_BOTH: &[Row<'static>] = &[(Call::Sync(&[FIRST, SOURCE]), ""), (Call::Failures, "0")];
+const SYNC_BOTH: &[Row<'static>] = &[
+    (Call::Sync(&[FIRST, SOURCE]), GIVES),
+    (Call::Failures(0), GIVES),
+];
 
 /// The folder is synced, and each file.
 const SYNCED: &[Scene<'static>] = &[(None, WHOLE, 0), (None, SYNC_NONE, 4), (None, SYNC_BOTH, 7)];
 
 const MAKE: &[Row<'static>] = &[
-    (Call::Create(FIRST), ""),
-    (Call::Append(FIRST, "whole"), ""),
+    (Call::Create(FIRST), GIVES),
+    (Call::Append(FIRST, "whole"), GIVES),
 ];
 
 /// What a folder tells where the file is gone, where memory is wanting, and where the system failed: to a call that reads, to
 /// one that asks for a size, to one that lists, and to one that writes.
 const GONE: &[Row<'static>] = &[
-    (Call::Read(FIRST, 0, 1), "NO 31"),
-    (Call::Size(FIRST), "NO 31"),
-    (Call::Names, "NO 30"),
-    (Call::Append(FIRST, "x"), "NO 30"),
+    (Call::Read(FIRST, 0, 1, ""), NO_31),
+    (Call::Size(FIRST, 0), NO_31),
+    (Call::Names(&[]), NO_30),
+    (Call::Append(FIRST, "x"), NO_30),
 ];
 
 const WANTING: &[Row<'static>] = &[
-    (Call::Read(FIRST, 0, 1), "NO 40"),
-    (Call::Size(FIRST), "NO 30"),
-    (Call::Names, "NO 40"),
-    (Call::Append(FIRST, "x"), "NO 30"),
+    (Call::Read(FIRST, 0, 1, ""), NO_40),
+    (Call::Size(FIRST, 0), NO_30),
+    (Call::Names(&[]), NO_40),
+    (Call::Append(FIRST, "x"), NO_30),
 ];
 
 const FAILED: &[Row<'static>] = &[
-    (Call::Read(FIRST, 0, 1), "NO 30"),
-    (Call::Size(FIRST), "NO 30"),
-    (Call::Names, "NO 30"),
-    (Call::Append(FIRST, "x"), "NO 30"),
+    (Call::Read(FIRST, 0, 1, ""), NO_30),
+    (Call::Size(FIRST, 0), NO_30),
+    (Call::Names(&[]), NO_30),
+    (Call::Append(FIRST, "x"), NO_30),
 ];
 
 /// A file that opens, and can't be read: the device failed.
-const UNREAD: &[Row<'static>] = &[(Call::Read(FIRST, 0, 5), "NO 30")];
+const UNREAD: &[Row<'static>] = &[(Call::Read(FIRST, 0, 5, ""), NO_30)];
 
-const READ: &[Row<'static>] = &[(Call::Read(FIRST, 0, 5), "whole"), (Call::Failures, "15")];
+const READ: &[Row<'static>] = &[
+    (Call::Read(FIRST, 0, 5, "whole"), GIVES),
+    (Call::Failures(15), GIVES),
+];
 
 const KINDS: &[Scene<'static>] = &[
     (None, MAKE, 0),
@@ -173,18 +164,18 @@ const KINDS: &[Scene<'static>] = &[
 
 /// An absent file is a failure of this call alone.
 const SYNC_ABSENT: &[Row<'static>] = &[
-    (Call::Sync(&[FIRST]), "NO 30"),
-    (Call::Create(FIRST), ""),
-    (Call::Sync(&[FIRST]), ""),
+    (Call::Sync(&[FIRST]), NO_30),
+    (Call::Create(FIRST), GIVES),
+    (Call::Sync(&[FIRST]), GIVES),
 ];
 
-const NOT_SYNCED: &[Row<'static>] = &[(Call::Sync(&[FIRST]), "NO 30")];
+const NOT_SYNCED: &[Row<'static>] = &[(Call::Sync(&[FIRST]), NO_30)];
 
 const NEVER_SYNCED: &[Row<'static>] = &[
-    (Call::Sync(&[FIRST]), "NO 30"),
-    (Call::Sync(&[]), "NO 30"),
-    (Call::Append(FIRST, "x"), ""),
-    (Call::Failures, "4"),
+    (Call::Sync(&[FIRST]), NO_30),
+    (Call::Sync(&[]), NO_30),
+    (Call::Append(FIRST, "x"), GIVES),
+    (Call::Failures(4), GIVES),
 ];
 
 const FAILED_SYNC: &[Scene<'static>] = &[
@@ -193,7 +184,7 @@ const FAILED_SYNC: &[Scene<'static>] = &[
     (None, NEVER_SYNCED, 5),
 ];
 
-const FOLDER_NOT_SYNCED: &[Row<'static>] = &[(Call::Sync(&[]), "NO 30")];
+const FOLDER_NOT_SYNCED: &[Row<'static>] = &[(Call::Sync(&[]), NO_30)];
 
 const FAILED_FOLDER_SYNC: &[Scene<'static>] = &[
     (None, SYNC_ABSENT, 5),
@@ -206,14 +197,17 @@ const FAILED_FOLDER_SYNC: &[Scene<'static>] = &[
 ];
 
 const LISTED: &[Row<'static>] = &[
-    (Call::Create(FIRST), ""),
-    (Call::Create(SOURCE), ""),
-    (Call::Names, "_1.seg _2.sto "),
+    (Call::Create(FIRST), GIVES),
+    (Call::Create(SOURCE), GIVES),
+    (Call::Names(&[FIRST, SOURCE]), GIVES),
 ];
 
-const NOT_LISTED: &[Row<'static>] = &[(Call::Names, "NO 30")];
+const NOT_LISTED: &[Row<'static>] = &[(Call::Names(&[]), NO_30)];
 
-const LISTED_AGAIN: &[Row<'static>] = &[(Call::Names, "_1.seg _2.sto "), (Call::Failures, "5")];
+const LISTED_AGAIN: &[Row<'static>] = &[
+    (Call::Names(&[FIRST, SOURCE]), GIVES),
+    (Call::Failures(5), GIVES),
+];
 
 /// The listing fails behind all names, and then what an entry is can't be asked: nothing is told to be all that is there. That
 /// the system calls a name too long isn't that a name is no text.
@@ -240,15 +234,15 @@ const FAILED_LISTING: &[Scene<'static>] = &[
 ];
 
 const NOT_DELETED: &[Row<'static>] = &[
-    (Call::Delete(FIRST), "NO 30"),
-    (Call::Read(FIRST, 0, 5), "whole"),
+    (Call::Delete(FIRST), NO_30),
+    (Call::Read(FIRST, 0, 5, "whole"), GIVES),
 ];
 
 const DELETED: &[Row<'static>] = &[
-    (Call::Read(FIRST, 0, 5), "whole"),
-    (Call::Delete(FIRST), ""),
-    (Call::Size(FIRST), "NO 31"),
-    (Call::Failures, "2"),
+    (Call::Read(FIRST, 0, 5, "whole"), GIVES),
+    (Call::Delete(FIRST), GIVES),
+    (Call::Size(FIRST, 0), NO_31),
+    (Call::Failures(2), GIVES),
 ];
 
 const DENIED_DELETE: &[Scene<'static>] = &[
@@ -262,67 +256,5 @@ const DENIED_DELETE: &[Scene<'static>] = &[
     (None, DELETED, 0),
 ];
 
-/// Whether 70 files are written and read, one behind the other.
-fn are_written<D: Directory + Shelf>(alloc: Global, device: &mut D) -> Result<bool, Refusal> {
-    for number in 1..=70 {
-        let name = FileName::Segment(number);
-        let rows = [(Call::Write(name, "x"), ""), (Call::Read(name, 0, 1), "x")];
-        if !are_answered(alloc, device, &rows)? {
-            return Ok(false);
-        }
-    }
-    Ok(true)
-}
-
-/// Whether as many files stay open then as may, and one beside them is in hand.
-fn are_few<D: Directory + Shelf>(
-    alloc: Global,
-    device: &mut D,
-    notes: &Notes,
-) -> Result<bool, Refusal> {
-    Ok(are_written(alloc, device)? && notes.most_open.get() == 65)
-}
-
-/// What a job shows, and the job.
-const JOBS: &[(&str, Job<'static>)] = &[
-    (
-        "a folder asks the system for all it needs",
-        Job::Scenes(SYNCED),
-    ),
-    (
-        "each error of the system is told as it is",
-        Job::Scenes(KINDS),
-    ),
-    (
-        "after a failed sync none succeeds",
-        Job::Scenes(FAILED_SYNC),
-    ),
-    (
-        "after a failed sync of the folder none succeeds",
-        Job::Scenes(FAILED_FOLDER_SYNC),
-    ),
-    (
-        "a listing that fails is no list",
-        Job::Scenes(FAILED_LISTING),
-    ),
-    ("a denied delete is a failure", Job::Scenes(DENIED_DELETE)),
-    ("few files are open at once", Job::Many),
-];
-
-/// The first job of which a call is answered otherwise, each in a folder of its own.
-fn failing<R: Files + AllocGlobal + Clone + Drop>(
-    rt: &R,
-    jobs: &[(&'static str, Job<'_>)],
-) -> Result<Option<&'static str>, Fail> {
-    for &(name, job) in jobs {
-        if !is_done(rt, "system_test", job)? {
-            return Ok(Some(name));
-        }
-    }
-    Ok(None)
-}
-
-#[test]
-fn a_folder_asks_the_system_and_tells_what_it_is_told(rt: HostRuntime) -> Result<(), Fail> {
-    expect_passed(failing(&rt, JOBS)?)
-}
+/// More files are read than stay open.
+const MANY: &[Scene<'static>] = &[(None, &[(Call::Many, GIVES)], 0)];

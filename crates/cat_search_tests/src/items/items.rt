@@ -1,36 +1,33 @@
 //! Items: the values of an item. Which texts are no items, and at which limits, are days of lines: `tests/days/items.txt`.
 use crate::items::texts::{SHOP, are_texts, number};
-use crate::verdict::{expect, expect_yes};
 use cat_base::Refusal;
 use cat_items::{FieldValue, Item, Schema};
 use std::alloc::Global;
-use std::test::Fail;
 
 /// Whether the text is refused so as an item, or is one where the number is 0.
 fn is_answered(alloc: Global, schema: &Schema, text: &[u8], want: u8) -> bool {
     number(&schema.item(alloc, text)) == want
 }
 
-/// The same of each text.
-fn are_answered(alloc: Global, rows: &[(&[u8], u8)]) -> Result<bool, Refusal> {
-    let schema = Schema::read(alloc, b"{}")?;
-    for (text, want) in rows {
-        if !is_answered(alloc, &schema, text, *want) {
-            return Ok(false);
+/// What no line holds, or no line of texts does: line feeds, and bytes that are no UTF-8.
+const ROWS: &[(&str, &[u8], u8)] = &[
+    (
+        "an item between spaces and line feeds",
+        b" {\"id\" :\r\n\"a\"}\t",
+        0,
+    ),
+    ("a line feed in a text", b"{\"id\":\"a\",\"x\":\"\n\"}", 11),
+    ("a byte that is no UTF-8", b"{\"id\":\"\xff\"}", 11),
+];
+
+/// The first of them that is answered otherwise.
+fn answered_otherwise(alloc: Global, schema: &Schema) -> Option<&'static str> {
+    for &(name, text, want) in ROWS {
+        if !is_answered(alloc, schema, text, want) {
+            return Some(name);
         }
     }
-    Ok(true)
-}
-
-/// What no line holds, or no line of texts does: line feeds, and bytes that are no UTF-8.
-#[test]
-fn items_that_no_line_puts(rt: HostRuntime) -> Result<(), Fail> {
-    const ROWS: &[(&[u8], u8)] = &[
-        (b" {\"id\" :\r\n\"a\"}\t", 0),
-        (b"{\"id\":\"a\",\"x\":\"\n\"}", 11),
-        (b"{\"id\":\"\xff\"}", 11),
-    ];
-    expect_yes(are_answered(rt.alloc(), ROWS))
+    None
 }
 
 /// What an item has in the fields of the shop: its brand, its colors, its price and the words of its title.
@@ -89,8 +86,8 @@ fn is_read_so(alloc: Global, text: &str, id: &str, want: &Values<'_>) -> Result<
     Ok(is_item(&item, text, id, want))
 }
 
-#[test]
-fn item_values(rt: HostRuntime) -> Result<(), Fail> {
+/// Whether the item that has all fields has their values.
+fn is_full(alloc: Global) -> Result<bool, Refusal> {
     const FULL: &str =
         r#" {"title":"Red-Shoe 42é red","price":-5,"color":["red","blue","red"],"brand":"Acme Ltd","id":"sku-1"}"#;
     const VALUES: Values<'static> = (
@@ -99,9 +96,22 @@ fn item_values(rt: HostRuntime) -> Result<(), Fail> {
         Some(-5),
         &["42é", "red", "shoe"],
     );
+    is_read_so(alloc, FULL, "sku-1", &VALUES)
+}
+
+/// Whether the item that has its id alone has no value.
+fn is_bare(alloc: Global) -> Result<bool, Refusal> {
     const NONE: Values<'static> = (None, &[], None, &[]);
-    const BARE: &str = r#"{"id":"b"}"#;
-    let full = is_read_so(rt.alloc(), FULL, "sku-1", &VALUES)?;
-    let bare = is_read_so(rt.alloc(), BARE, "b", &NONE)?;
-    expect(full && bare)
+    is_read_so(alloc, r#"{"id":"b"}"#, "b", &NONE)
+}
+
+/// What isn't so of items.
+pub(super) fn failing(alloc: Global) -> Result<Option<&'static str>, Refusal> {
+    if !is_full(alloc)? {
+        return Ok(Some("an item has the values of its text"));
+    }
+    if !is_bare(alloc)? {
+        return Ok(Some("an item of an id alone has no value"));
+    }
+    Ok(answered_otherwise(alloc, &Schema::read(alloc, b"{}")?))
 }

@@ -1,10 +1,8 @@
 //! Schemas: their fields, and which are equal or accept an item. Which texts are no schemas are days of lines:
 //! `tests/days/items.txt`.
-use crate::verdict::{expect, expect_yes};
 use cat_base::Refusal;
 use cat_items::{Field, Item, Kind, Schema};
 use std::alloc::Global;
-use std::test::Fail;
 
 /// Whether the fields have these names and kinds.
 fn are_fields(fields: &[Field], want: &[(&str, Kind)]) -> bool {
@@ -16,8 +14,8 @@ fn are_fields(fields: &[Field], want: &[(&str, Kind)]) -> bool {
     fields.len() == want.len()
 }
 
-#[test]
-fn schema_fields(rt: HostRuntime) -> Result<(), Fail> {
+/// Whether a copy of a schema has the fields that its text says last, in byte order.
+fn has_fields(alloc: Global) -> Result<bool, Refusal> {
     const TEXT: &[u8] =
         br#"{"title":"text","b_2":"number","b":"keyword","color":"number","color":"facet"}"#;
     const WANT: &[(&str, Kind)] = &[
@@ -26,8 +24,8 @@ fn schema_fields(rt: HostRuntime) -> Result<(), Fail> {
         ("color", Kind::Facet),
         ("title", Kind::Text),
     ];
-    let schema = Schema::read(rt.alloc(), TEXT)?.copy()?;
-    expect(are_fields(schema.fields(), WANT))
+    let schema = Schema::read(alloc, TEXT)?.copy()?;
+    Ok(are_fields(schema.fields(), WANT))
 }
 
 /// The texts of two schemas, and whether these are equal.
@@ -41,68 +39,73 @@ fn is_pair(alloc: Global, pair: &Pair<'_>) -> Result<bool, Refusal> {
     Ok((first == second) == want && (second == first) == want)
 }
 
-/// The same of each pair.
-fn are_pairs(alloc: Global, pairs: &[Pair<'_>]) -> Result<bool, Refusal> {
-    for pair in pairs {
+const PAIRS: &[Pair<'static>] = &[
+    ("{}", "{}", true),
+    (
+        r#"{"a":"text","b":"facet"}"#,
+        r#"{"b":"facet","a":"text"}"#,
+        true,
+    ),
+    (r#"{"a":"text","a":"facet"}"#, r#"{"a":"facet"}"#, true),
+    // No line holds a line feed.
+    (" {\n\"a_1\" : \"text\"\t} ", r#"{"a_1":"text"}"#, true),
+    ("{}", r#"{"a":"text"}"#, false),
+    (r#"{"a":"text"}"#, r#"{"a":"keyword"}"#, false),
+    (r#"{"a":"text"}"#, r#"{"b":"text"}"#, false),
+    (r#"{"a":"text"}"#, r#"{"a":"text","b":"text"}"#, false),
+    (
+        r#"{"a":"text","b":"text"}"#,
+        r#"{"a":"text","b":"facet"}"#,
+        false,
+    ),
+];
+
+/// The second text of the first pair that isn't so.
+fn failing_pair(alloc: Global) -> Result<Option<&'static str>, Refusal> {
+    for pair in PAIRS {
         if !is_pair(alloc, pair)? {
-            return Ok(false);
+            return Ok(Some(pair.1));
         }
     }
-    Ok(true)
+    Ok(None)
 }
 
-#[test]
-fn schemas_are_equal_by_names_and_kinds(rt: HostRuntime) -> Result<(), Fail> {
-    const ROWS: &[Pair<'static>] = &[
-        ("{}", "{}", true),
-        (
-            r#"{"a":"text","b":"facet"}"#,
-            r#"{"b":"facet","a":"text"}"#,
-            true,
-        ),
-        (r#"{"a":"text","a":"facet"}"#, r#"{"a":"facet"}"#, true),
-        // No line holds a line feed.
-        (" {\n\"a_1\" : \"text\"\t} ", r#"{"a_1":"text"}"#, true),
-        ("{}", r#"{"a":"text"}"#, false),
-        (r#"{"a":"text"}"#, r#"{"a":"keyword"}"#, false),
-        (r#"{"a":"text"}"#, r#"{"b":"text"}"#, false),
-        (r#"{"a":"text"}"#, r#"{"a":"text","b":"text"}"#, false),
-        (
-            r#"{"a":"text","b":"text"}"#,
-            r#"{"a":"text","b":"facet"}"#,
-            false,
-        ),
-    ];
-    expect_yes(are_pairs(rt.alloc(), ROWS))
-}
+/// Texts of schemas, and whether each accepts the items of the first.
+const ACCEPTING: &[(&str, bool)] = &[
+    (r#"{"a":"text","b":"facet"}"#, true),
+    (r#"{"a":"text"}"#, false),
+    ("{}", false),
+    (r#"{"a":"text","b":"facet","c":"number"}"#, false),
+    (r#"{"a":"text","b":"keyword"}"#, false),
+    (r#"{"a":"text","c":"facet"}"#, false),
+];
 
-/// Whether each schema accepts the item, or doesn't, as stands beside its text.
-fn accept_so(alloc: Global, item: &Item, rows: &[(&str, bool)]) -> Result<bool, Refusal> {
-    for (text, want) in rows {
+/// The first text whose schema accepts the item, or doesn't, otherwise than stands beside it.
+fn accepting_otherwise(alloc: Global, item: &Item) -> Result<Option<&'static str>, Refusal> {
+    for (text, want) in ACCEPTING {
         if Schema::read(alloc, text.as_bytes())?.accepts(item) != *want {
-            return Ok(false);
+            return Ok(Some(text));
         }
     }
-    Ok(true)
+    Ok(None)
 }
 
-/// The same of an item that has all of two fields, and of one that has none.
-fn accept_each_so(alloc: Global, rows: &[(&str, bool)]) -> Result<bool, Refusal> {
+/// The same of the item of the text under the first schema.
+fn accepting_text_otherwise(alloc: Global, text: &str) -> Result<Option<&'static str>, Refusal> {
     let under = Schema::read(alloc, br#"{"a":"text","b":"facet"}"#)?;
-    let full = under.item(alloc, br#"{"id":"1","a":"red","b":["x"]}"#)?;
-    let bare = under.item(alloc, br#"{"id":"2"}"#)?;
-    Ok(accept_so(alloc, &full, rows)? && accept_so(alloc, &bare, rows)?)
+    accepting_otherwise(alloc, &under.item(alloc, text.as_bytes())?)
 }
 
-#[test]
-fn schemas_accept_the_items_of_their_fields(rt: HostRuntime) -> Result<(), Fail> {
-    const ROWS: &[(&str, bool)] = &[
-        (r#"{"a":"text","b":"facet"}"#, true),
-        (r#"{"a":"text"}"#, false),
-        ("{}", false),
-        (r#"{"a":"text","b":"facet","c":"number"}"#, false),
-        (r#"{"a":"text","b":"keyword"}"#, false),
-        (r#"{"a":"text","c":"facet"}"#, false),
-    ];
-    expect_yes(accept_each_so(rt.alloc(), ROWS))
+/// What isn't so of schemas. An item that has all of two fields is accepted as one that has none is.
+pub(super) fn failing(alloc: Global) -> Result<Option<&'static str>, Refusal> {
+    if !has_fields(alloc)? {
+        return Ok(Some("a schema has the fields of its text"));
+    }
+    if let Some(text) = accepting_text_otherwise(alloc, r#"{"id":"1","a":"red","b":["x"]}"#)? {
+        return Ok(Some(text));
+    }
+    if let Some(text) = accepting_text_otherwise(alloc, r#"{"id":"2"}"#)? {
+        return Ok(Some(text));
+    }
+    failing_pair(alloc)
 }
