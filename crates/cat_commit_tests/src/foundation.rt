@@ -4,3 +4,5 @@
 mod merge;
 #[cfg(test)]
 mod refs;
+#[cfg(test)]
+mod shared;

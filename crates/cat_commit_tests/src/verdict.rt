@@ -3,19 +3,20 @@
 use std::fmt::Debug;
 use std::test::Fail;
 
-/// Fails unless it is so.
-pub(crate) fn expect(is_so: bool) -> Result<(), Fail> {
-    if is_so {
-        Ok(())
-    } else {
-        Err(Fail::new("it isn't so"))
+/// Fails with the name of the case that isn't so, unless there is none.
+pub(crate) fn expect_passed(failing: Option<&'static str>) -> Result<(), Fail> {
+    match failing {
+        Some(name) => Err(Fail::new(name)),
+        None => Ok(()),
     }
 }
 
-/// Fails unless the answer is yes. An error is told as it is.
-pub(crate) fn expect_yes<E: Debug + Drop>(answer: Result<bool, E>) -> Result<(), Fail> {
-    match answer {
-        Ok(is_so) => expect(is_so),
+/// The same of what is found. An error is told as it is.
+pub(crate) fn expect_none<E: Debug + Drop>(
+    failing: Result<Option<&'static str>, E>,
+) -> Result<(), Fail> {
+    match failing {
+        Ok(failing) => expect_passed(failing),
         Err(error) => Err(Fail::from(error)),
     }
 }

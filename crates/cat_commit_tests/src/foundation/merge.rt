@@ -1,4 +1,4 @@
 //! Tests of merges: which segments are merged next, and how the new one is written.
 
-mod windows;
-mod writing;
+pub(crate) mod windows;
+pub(crate) mod writing;

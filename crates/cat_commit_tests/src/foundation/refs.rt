@@ -3,12 +3,10 @@ ghost use Rattle.std.specs.Prelude.{◌≤◌, ◌<◌, length, IfOk};
 ghost use Rattle.cat_model.specs.Files.{Name};
 ghost use Rattle.cat_ledger_laws.specs.model.Users.{users_of};
 
-use crate::verdict::expect_yes;
 use cat_base::Refusal;
 use cat_directory::{Directory, Faults, Faulty, FileName, MemoryDirectory};
 use cat_lifetimes::refs::FileRefs;
 use std::alloc::{AllocError, Global};
-use std::test::Fail;
 
 /// The files of the tests, in the byte order of their names: digits come before the underscore, and the underscore before
 /// letters.
@@ -116,11 +114,6 @@ fn counts_by_name(alloc: Global) -> Result<bool, AllocError> {
     are_users_counted(&mut refs)
 }
 
-#[test]
-fn users_are_counted_by_name(rt: HostRuntime) -> Result<(), Fail> {
-    expect_yes(counts_by_name(rt.alloc()))
-}
-
 /// Whether just these files are there, and all of them pending.
 fn are_left(
     alloc: Global,
@@ -152,21 +145,6 @@ fn is_swept_up_to(alloc: Global, passes: usize) -> Result<bool, Refusal> {
     leaves(alloc, &mut device, &mut refs, left)
 }
 
-/// The same of each call.
-fn is_swept_up_to_each(alloc: Global) -> Result<bool, Refusal> {
-    for passes in 0..FILES.len() {
-        if !is_swept_up_to(alloc, passes)? {
-            return Ok(false);
-        }
-    }
-    Ok(true)
-}
-
-#[test]
-fn sweeps_go_by_bytes_up_to_the_first_fault(rt: HostRuntime) -> Result<(), Fail> {
-    expect_yes(is_swept_up_to_each(rt.alloc()))
-}
-
 /// Whether a sweep leaves the used file alone.
 fn is_alone_left(
     alloc: Global,
@@ -183,21 +161,6 @@ fn is_alone_left(
 fn stays(alloc: Global, index: usize, used: FileName) -> Result<bool, Refusal> {
     let mut refs = all_but(alloc, index)?;
     is_alone_left(alloc, &mut directory(alloc)?, &mut refs, used)
-}
-
-/// The same of each file.
-fn each_stays(alloc: Global) -> Result<bool, Refusal> {
-    for (index, &used) in FILES.iter().enumerate() {
-        if !stays(alloc, index, used)? {
-            return Ok(false);
-        }
-    }
-    Ok(true)
-}
-
-#[test]
-fn used_files_stay(rt: HostRuntime) -> Result<(), Fail> {
-    expect_yes(each_stays(rt.alloc()))
 }
 
 /// Whether neither names asks the device for anything.
@@ -219,11 +182,6 @@ fn asks_for_nothing(alloc: Global) -> Result<bool, Refusal> {
     Ok(are_swept_unasked(alloc, &mut device, &mut FileRefs::new(alloc), &mut used))
 }
 
-#[test]
-fn a_sweep_of_nothing_asks_for_nothing(rt: HostRuntime) -> Result<(), Fail> {
-    expect_yes(asks_for_nothing(rt.alloc()))
-}
-
 /// Whether files that are absent are swept as those that are there.
 fn are_absent_swept(alloc: Global) -> Result<bool, Refusal> {
     let mut refs = all_but(alloc, 0)?;
@@ -231,7 +189,24 @@ fn are_absent_swept(alloc: Global) -> Result<bool, Refusal> {
     Ok(are_swept && refs.pending() == 0)
 }
 
-#[test]
-fn an_absent_file_is_no_fault(rt: HostRuntime) -> Result<(), Fail> {
-    expect_yes(are_absent_swept(rt.alloc()))
+/// What isn't so of users and sweeps.
+pub(super) fn failing(alloc: Global) -> Result<Option<&'static str>, Refusal> {
+    if !counts_by_name(alloc)? {
+        return Ok(Some("users are counted by name"));
+    }
+    if !asks_for_nothing(alloc)? {
+        return Ok(Some("a sweep of nothing asks for nothing"));
+    }
+    if !are_absent_swept(alloc)? {
+        return Ok(Some("an absent file is no fault"));
+    }
+    for (index, &used) in FILES.iter().enumerate() {
+        if !is_swept_up_to(alloc, index)? {
+            return Ok(Some("a sweep goes by bytes up to the first fault"));
+        }
+        if !stays(alloc, index, used)? {
+            return Ok(Some("a used file stays"));
+        }
+    }
+    Ok(None)
 }

@@ -1,7 +1,8 @@
 //! Checks and drops on a device whose calls fail.
 use crate::opening::files::{Device, Files, device_with, is_whole};
+use crate::opening::openings;
 use crate::opening::openings::is_read;
-use crate::verdict::expect_yes;
+use crate::verdict::expect_none;
 use cat_base::Refusal;
 use cat_check::{Standing, Verdict, check, drop_torn};
 use cat_directory::{Faults, FileName, Holder};
@@ -55,21 +56,6 @@ fn is_found(alloc: Global) -> Result<bool, Refusal> {
     Ok(is_whole && device.calls() == CALLS && is_read(alloc, &mut device)?)
 }
 
-/// Whether that is so, and each of these calls may fail.
-fn is_told_behind_each(alloc: Global) -> Result<bool, Refusal> {
-    for passes in 0..CALLS {
-        if !is_told_behind(alloc, passes)? {
-            return Ok(false);
-        }
-    }
-    is_found(alloc)
-}
-
-#[test]
-fn a_failing_device_is_no_damage(rt: HostRuntime) -> Result<(), Fail> {
-    expect_yes(is_told_behind_each(rt.alloc()))
-}
-
 /// How many calls a drop makes: one for the names, two for each own file, those of an opening, a delete and a sync.
 const DROPPING: u64 = 1 + 2 + 2 + 15 + 2;
 
@@ -99,17 +85,25 @@ fn is_dropped_behind(alloc: Global, passes: u64) -> Result<bool, Refusal> {
     Ok(is_dropped && told(alloc, &mut device) == 0 && is_read(alloc, &mut device)?)
 }
 
-/// The same of each call.
-fn is_dropped_behind_each(alloc: Global) -> Result<bool, Refusal> {
-    for passes in 0..DROPPING {
-        if !is_dropped_behind(alloc, passes)? {
-            return Ok(false);
+/// What isn't so of openings, checks and drops.
+fn failing(alloc: Global) -> Result<Option<&'static str>, Refusal> {
+    if !is_found(alloc)? {
+        return Ok(Some("a whole commit is found"));
+    }
+    for passes in 0..CALLS {
+        if !is_told_behind(alloc, passes)? {
+            return Ok(Some("a failing device is no damage"));
         }
     }
-    Ok(true)
+    for passes in 0..DROPPING {
+        if !is_dropped_behind(alloc, passes)? {
+            return Ok(Some("a drop that fails can be done again"));
+        }
+    }
+    openings::failing(alloc)
 }
 
 #[test]
-fn a_drop_that_fails_can_be_done_again(rt: HostRuntime) -> Result<(), Fail> {
-    expect_yes(is_dropped_behind_each(rt.alloc()))
+fn a_failing_device_is_no_damage(rt: HostRuntime) -> Result<(), Fail> {
+    expect_none(failing(rt.alloc()))
 }

@@ -1,7 +1,7 @@
 //! Openings on a device whose calls fail, and without memory.
 use crate::opening::files::{Device, WHOLE_TOLD, device_with, is_whole};
 use crate::opening::told::{FIELDS, is_told};
-use crate::verdict::expect_yes;
+use crate::verdict::expect_none;
 use cat_base::Refusal;
 use cat_check::cat_commits::reading::read_commit;
 use cat_directory::{Faults, Holder, MemoryDirectory};
@@ -32,28 +32,14 @@ fn is_met(
     Ok(is_told && is_counted && is_read(alloc, &mut device)?)
 }
 
-#[test]
-fn each_file_is_read_once(rt: HostRuntime) -> Result<(), Fail> {
-    expect_yes(is_met(rt.alloc(), Faults::Never, WHOLE_TOLD, CALLS, 0))
-}
-
-/// Whether an opening is refused by the device at each call that fails alone or with all behind it, which counts one failure, and
+/// Whether an opening is refused by the device where this call fails, alone or with all behind it, which counts one failure, and
 /// another one reads the files as they were.
-fn are_refused(alloc: Global) -> Result<bool, Refusal> {
-    for passes in 0..CALLS {
-        let calls = passes + 1;
-        if !is_met(alloc, Faults::One(passes), "NO 30", calls, 1)?
-            || !is_met(alloc, Faults::All(passes), "NO 30", calls, 1)?
-        {
-            return Ok(false);
-        }
-    }
-    Ok(true)
-}
-
-#[test]
-fn the_first_call_that_fails_ends_an_opening(rt: HostRuntime) -> Result<(), Fail> {
-    expect_yes(are_refused(rt.alloc()))
+fn is_refused(alloc: Global, passes: u64) -> Result<bool, Refusal> {
+    let calls = passes.saturating_add(1);
+    Ok(
+        is_met(alloc, Faults::One(passes), "NO 30", calls, 1)?
+            && is_met(alloc, Faults::All(passes), "NO 30", calls, 1)?,
+    )
 }
 
 /// Whether the answer is yes, or memory was wanting.
@@ -64,16 +50,20 @@ fn is_so_or_memory(answer: Result<bool, Refusal>) -> bool {
     }
 }
 
-/// Whether the commit is read, or memory is wanting, and another opening reads the files as they were.
-fn is_read_or_memory(alloc: Global) -> Result<bool, Refusal> {
+/// Tells unless the commit is read, or memory is wanting, and another opening reads the files as they were.
+fn changed_without_memory(alloc: Global) -> Result<Option<&'static str>, Refusal> {
     let mut device = device_with(alloc, &[], Faults::Never)?;
     let is_read_or_not = is_so_or_memory(is_told(alloc, &mut device, WHOLE_TOLD));
-    Ok(is_read_or_not && is_read(alloc, &mut device)?)
+    if is_read(alloc, &mut device)? && is_read_or_not {
+        Ok(None)
+    } else {
+        Ok(Some("an opening without memory changes nothing"))
+    }
 }
 
 #[test]
 fn an_opening_without_memory_changes_nothing(rt: HostRuntime) -> Result<(), Fail> {
-    expect_yes(is_read_or_memory(rt.alloc()))
+    expect_none(changed_without_memory(rt.alloc()))
 }
 
 /// Whether a commit that is absent is damaged.
@@ -85,7 +75,18 @@ fn is_absent_damaged(alloc: Global) -> Result<bool, Refusal> {
     }
 }
 
-#[test]
-fn an_absent_commit_is_damage_without_memory(rt: HostRuntime) -> Result<(), Fail> {
-    expect_yes(is_absent_damaged(rt.alloc()))
+/// What isn't so of openings.
+pub(super) fn failing(alloc: Global) -> Result<Option<&'static str>, Refusal> {
+    if !is_met(alloc, Faults::Never, WHOLE_TOLD, CALLS, 0)? {
+        return Ok(Some("each file is read once"));
+    }
+    if !is_absent_damaged(alloc)? {
+        return Ok(Some("an absent commit is damage"));
+    }
+    for passes in 0..CALLS {
+        if !is_refused(alloc, passes)? {
+            return Ok(Some("the first call that fails ends an opening"));
+        }
+    }
+    Ok(None)
 }

@@ -1,10 +1,8 @@
 //! Levels and windows of segments, as a person worked them out.
 ghost use Rattle.cat_merge.specs.Policy.{IsMergePolicy};
 
-use crate::verdict::expect;
 use cat_base::MAX_ROWS;
 use cat_merge::{level_of, window};
-use std::test::Fail;
 
 /// Rows of a segment, and its level.
 type Levels<'a> = &'a [(u32, u32)];
@@ -83,20 +81,6 @@ const WINDOWS_OF_THREE: Windows<'static> = &[
     (&[30, 11, 29, 10, 10, 10, 10], Some(3)),
 ];
 
-/// Whether each of the levels and windows is as it was worked out.
-fn are_as_worked_out() -> bool {
-    are_levels(LEVELS_BY_TWO, 2, 1)
-        && are_levels(LEVELS_BY_TEN, 10, 1_000)
-        && are_levels(LEVELS_BY_HUNDRED, 100, 100_000)
-        && are_windows(WINDOWS_OF_TWO, 2, 1)
-        && are_windows(WINDOWS_OF_THREE, 3, 10)
-}
-
-#[test]
-fn levels_and_windows_are_as_worked_out(_rt: HostRuntime) -> Result<(), Fail> {
-    expect(are_as_worked_out())
-}
-
 const HALF: u32 = MAX_ROWS as u32 / 2;
 
 /// Whether two segments are merged that have as many rows together as one may have, and none with more.
@@ -121,8 +105,31 @@ fn hundreds_fit() -> bool {
         && window(&[1; 99], 100, 1).is_none()
 }
 
-/// Segments that are merged have as many rows as one segment may have, and no more.
-#[test]
-fn windows_at_the_limit(_rt: HostRuntime) -> Result<(), Fail> {
-    expect(halves_fit() && sixty_fourths_fit() && hundreds_fit())
+/// What isn't so of levels and windows: segments that are merged have as many rows as one segment may have, and no more.
+pub(crate) fn failing() -> Option<&'static str> {
+    if !are_levels(LEVELS_BY_TWO, 2, 1) {
+        return Some("levels by two are as worked out");
+    }
+    if !are_levels(LEVELS_BY_TEN, 10, 1_000) {
+        return Some("levels by ten are as worked out");
+    }
+    if !are_levels(LEVELS_BY_HUNDRED, 100, 100_000) {
+        return Some("levels by a hundred are as worked out");
+    }
+    if !are_windows(WINDOWS_OF_TWO, 2, 1) {
+        return Some("windows of two are as worked out");
+    }
+    if !are_windows(WINDOWS_OF_THREE, 3, 10) {
+        return Some("windows of three are as worked out");
+    }
+    if !halves_fit() {
+        return Some("two segments are merged of as many rows as one may have");
+    }
+    if !sixty_fourths_fit() {
+        return Some("64 segments are merged of as many rows as one may have");
+    }
+    if !hundreds_fit() {
+        return Some("a hundred segments are merged of one row each");
+    }
+    None
 }

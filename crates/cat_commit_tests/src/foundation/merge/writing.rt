@@ -1,11 +1,9 @@
 //! The file of a merged segment, which is written whole by the next try where one fails.
-use crate::verdict::expect_yes;
 use cat_base::{Refusal, SegNo};
 use cat_directory::{Faults, Faulty, FileName, Holder, MemoryDirectory, Shelf};
 use cat_merge::files::write_segment;
 use cat_segment::{Segment, decode_seg};
 use std::alloc::Global;
-use std::test::Fail;
 
 /// The number of the segment.
 const NUMBER: SegNo = 9;
@@ -50,13 +48,14 @@ fn is_written_later(alloc: Global, segment: &Segment, passes: u64) -> Result<boo
     is_written_again(alloc, &mut device, segment)
 }
 
-/// The same of each of the two calls.
-fn is_written_later_each(alloc: Global) -> Result<bool, Refusal> {
+/// What isn't so of either call.
+pub(crate) fn failing(alloc: Global) -> Result<Option<&'static str>, Refusal> {
     let segment = decode_seg(alloc, BYTES)?;
-    Ok(is_written_later(alloc, &segment, 0)? && is_written_later(alloc, &segment, 1)?)
-}
-
-#[test]
-fn a_segment_is_written_whole_at_last(rt: HostRuntime) -> Result<(), Fail> {
-    expect_yes(is_written_later_each(rt.alloc()))
+    if !is_written_later(alloc, &segment, 0)? {
+        return Ok(Some("a segment is written behind a failed create"));
+    }
+    if !is_written_later(alloc, &segment, 1)? {
+        return Ok(Some("a segment is written behind a failed append"));
+    }
+    Ok(None)
 }
