@@ -1,6 +1,6 @@
 //! Tests of the sessions' rights to views.
 
 #[cfg(test)]
-mod making;
+pub(crate) mod making;
 #[cfg(test)]
 mod taking;

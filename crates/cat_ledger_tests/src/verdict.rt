@@ -3,23 +3,6 @@
 use std::fmt::Debug;
 use std::test::Fail;
 
-/// Fails unless it is so.
-pub(crate) fn expect(is_so: bool) -> Result<(), Fail> {
-    if is_so {
-        Ok(())
-    } else {
-        Err(Fail::new("it isn't so"))
-    }
-}
-
-/// Fails unless the answer is yes. An error is told as it is.
-pub(crate) fn expect_yes<E: Debug + Drop>(answer: Result<bool, E>) -> Result<(), Fail> {
-    match answer {
-        Ok(is_so) => expect(is_so),
-        Err(error) => Err(Fail::from(error)),
-    }
-}
-
 /// Fails with the name of the case that isn't so, unless there is none.
 pub(crate) fn expect_passed(failing: Option<&'static str>) -> Result<(), Fail> {
     match failing {

@@ -1,8 +1,8 @@
 //! Calls of a ledger, and what each has to be answered.
-use crate::ledger::ledger::maintaining::{merge, sweep};
-use crate::ledger::ledger::telling::Told;
-use crate::ledger::ledger::viewing::{acquire, hold, let_go, prune, refresh, release, source};
-use crate::ledger::ledger::writing::{commit, delete, put, put_under};
+use crate::ledger::answers::Answer;
+use crate::ledger::ledger::maintaining::merge;
+use crate::ledger::ledger::viewing::{acquire, release, source};
+use crate::ledger::ledger::writing::{put, put_under};
 use cat_base::{Refusal, SessionNo, Token};
 use cat_directory::{Directory, Shelf};
 use cat_items::Schema;
@@ -15,7 +15,7 @@ use std::alloc::Global;
 const FIELDS: &[u8] = br#"{"name":"text","price":"number"}"#;
 
 /// A call, and what it is answered.
-pub(crate) type Row<'a> = (Call<'a>, Told);
+pub(crate) type Row<'a> = (Call<'a>, Answer);
 
 /// A call of a ledger.
 #[derive(Clone, Copy)]
@@ -29,7 +29,7 @@ pub(crate) enum Call<'a> {
     /// `release` by the first session of a right that the second was granted.
     Release(SessionNo, SessionNo, Token),
     Hold(SessionNo, Option<Token>),
-    /// `let_go`, and whether the session had the right.
+    /// `let_go`: one where the session had the right, or none.
     LetGo(SessionNo, Token),
     Prune(u64),
     /// `source` of the id in the view that the session holds, and the text that is wanted, if any.
@@ -46,21 +46,21 @@ pub(crate) fn answer<D: Directory + Shelf>(
     ledger: &mut Ledger<D>,
     rights: &mut Rights,
     call: Call<'_>,
-) -> Told {
+) -> Answer {
     match call {
         Call::Put(item) => put(alloc, ledger, item),
         Call::PutUnder(fields, item) => put_under(alloc, ledger, fields, item),
-        Call::Delete(id) => delete(ledger, id),
-        Call::Refresh => refresh(ledger),
+        Call::Delete(id) => ledger.delete(id),
+        Call::Refresh => ledger.refresh(),
         Call::Acquire(session, token) => acquire(ledger, rights, session, token),
         Call::Release(session, owner, token) => release(ledger, rights, (session, owner), token),
-        Call::Hold(session, token) => hold(ledger, session, token),
-        Call::LetGo(session, token) => let_go(ledger, session, token),
-        Call::Prune(count) => prune(ledger, count),
+        Call::Hold(session, token) => ledger.hold(session, token),
+        Call::LetGo(session, token) => Ok(u64::from(ledger.let_go(session, token))),
+        Call::Prune(count) => ledger.prune(count),
         Call::Source(session, token, id, want) => source(ledger, (session, token), id, want),
-        Call::Commit(text) => commit(ledger, text),
+        Call::Commit(text) => ledger.commit(text),
         Call::Merge => merge(ledger),
-        Call::Sweep => sweep(ledger),
+        Call::Sweep => ledger.sweep(),
     }
 }
 
@@ -85,13 +85,4 @@ pub(crate) fn open<D: Directory + Shelf + Drop>(
         Ok(ledger) => Ok(ledger),
         Err(refused) => Err(refused.refusal),
     }
-}
-
-/// Ends all rights without giving them back.
-pub(crate) fn end(rights: Rights) {
-    let mut rights = rights;
-    while let Some(hold) = rights.pop() {
-        hold.give_up();
-    }
-    rights.destroy_empty();
 }

@@ -1,10 +1,12 @@
 //! Each call of a device failing in turn: once, after which the ledger goes on, and from some one on, as a crash leaves it.
+use crate::ledger::answers::DONE;
 use crate::ledger::ledger::calling::{Call, Row, open, try_open};
 use crate::ledger::ledger::making::{Job, done};
-use crate::ledger::ledger::telling::Told;
-use crate::verdict::expect_yes;
+use crate::ledger::ledger::refusing::refuses_without_change;
+use crate::ledger::ledger::telling::ANY;
+use crate::verdict::expect_none;
 use cat_base::{Refusal, WriteNo};
-use cat_directory::{Directory, Faults, Faulty, FileName, Holder, MemoryDirectory};
+use cat_directory::{Directory, Faults, Faulty, FileName, Holder, MemoryDirectory, Shelf};
 use cat_ledger::Ledger;
 use std::alloc::Global;
 use std::test::Fail;
@@ -14,20 +16,20 @@ use std::test::Fail;
 const SHIFT: &[Row<'static>] = &[
     (
         Call::Put(r#"{"id":"a","name":"red apple","price":3}"#),
-        Told::Number(1),
+        Ok(1),
     ),
     (
         Call::Put(r#"{"id":"b","name":"blue bowl","price":5}"#),
-        Told::Number(2),
+        Ok(2),
     ),
-    (Call::Refresh, Told::Number(2)),
-    (Call::Acquire(1, None), Told::New(2)),
+    (Call::Refresh, Ok(2)),
+    (Call::Acquire(1, None), Ok(2)),
     (
         Call::Put(r#"{"id":"a","name":"green apple","price":6}"#),
-        Told::Number(3),
+        Ok(3),
     ),
-    (Call::Refresh, Told::Number(3)),
-    (Call::Commit("three"), Told::Any),
+    (Call::Refresh, Ok(3)),
+    (Call::Commit("three"), ANY),
     (
         Call::Source(
             1,
@@ -35,11 +37,11 @@ const SHIFT: &[Row<'static>] = &[
             "a",
             Some(r#"{"id":"a","name":"red apple","price":3}"#),
         ),
-        Told::Is(true),
+        DONE,
     ),
-    (Call::Merge, Told::Idle),
-    (Call::Delete("b"), Told::Number(4)),
-    (Call::Commit("four"), Told::Any),
+    (Call::Merge, DONE),
+    (Call::Delete("b"), Ok(4)),
+    (Call::Commit("four"), ANY),
     (
         Call::Source(
             1,
@@ -47,11 +49,11 @@ const SHIFT: &[Row<'static>] = &[
             "b",
             Some(r#"{"id":"b","name":"blue bowl","price":5}"#),
         ),
-        Told::Is(true),
+        DONE,
     ),
-    (Call::Release(1, 1, 2), Told::Back(1, 2)),
-    (Call::Prune(1), Told::Number(2)),
-    (Call::Sweep, Told::Any),
+    (Call::Release(1, 1, 2), Ok(2)),
+    (Call::Prune(1), Ok(2)),
+    (Call::Sweep, ANY),
 ];
 
 /// How many calls these make of a directory without a file: two to open it, four for each of two flushes, six for each of two
@@ -72,7 +74,7 @@ fn open_retried(alloc: Global, passes: u64) -> Result<Ledger<Faulty<MemoryDirect
 
 /// The table at the end, behind an opening.
 const LEFT: &[Row<'static>] = &[
-    (Call::Acquire(2, None), Told::New(4)),
+    (Call::Acquire(2, None), Ok(4)),
     (
         Call::Source(
             2,
@@ -80,9 +82,9 @@ const LEFT: &[Row<'static>] = &[
             "a",
             Some(r#"{"id":"a","name":"green apple","price":6}"#),
         ),
-        Told::Is(true),
+        DONE,
     ),
-    (Call::Source(2, 4, "b", None), Told::Is(true)),
+    (Call::Source(2, 4, "b", None), DONE),
 ];
 
 /// Whether the files at the end are those of the last commit, four, and of the two segments of the last view.
@@ -121,98 +123,73 @@ fn succeeds_later(alloc: Global, passes: u64) -> Result<bool, Refusal> {
     Ok(is_left(alloc, device.into_device())? && are_answered && has_failed)
 }
 
-/// Whether that is so of each of all calls, and no other is made.
-fn each_succeeds_later(alloc: Global) -> Result<bool, Refusal> {
-    for passes in 0..=CALLS {
-        if !succeeds_later(alloc, passes)? {
-            return Ok(false);
-        }
-    }
-    Ok(true)
-}
+/// The table of nothing.
+const NO_ITEM: &[Row<'static>] = &[
+    (Call::Acquire(1, Some(0)), Ok(0)),
+    (Call::Source(1, 0, "a", None), DONE),
+    (Call::Source(1, 0, "b", None), DONE),
+];
 
-#[test]
-fn each_call_that_fails_succeeds_later(rt: HostRuntime) -> Result<(), Fail> {
-    expect_yes(each_succeeds_later(rt.alloc()))
-}
-
-/// The table of nothing, and those of the two commits.
-const TABLES: &[(WriteNo, &[Row<'static>])] = &[
+/// That of the first commit.
+const TWO_ITEMS: &[Row<'static>] = &[
+    (Call::Acquire(1, Some(3)), Ok(3)),
     (
-        0,
-        &[
-            (Call::Acquire(1, Some(0)), Told::New(0)),
-            (Call::Source(1, 0, "a", None), Told::Is(true)),
-            (Call::Source(1, 0, "b", None), Told::Is(true)),
-        ],
+        Call::Source(
+            1,
+            3,
+            "a",
+            Some(r#"{"id":"a","name":"green apple","price":6}"#),
+        ),
+        DONE,
     ),
     (
-        3,
-        &[
-            (Call::Acquire(1, Some(3)), Told::New(3)),
-            (
-                Call::Source(
-                    1,
-                    3,
-                    "a",
-                    Some(r#"{"id":"a","name":"green apple","price":6}"#),
-                ),
-                Told::Is(true),
-            ),
-            (
-                Call::Source(
-                    1,
-                    3,
-                    "b",
-                    Some(r#"{"id":"b","name":"blue bowl","price":5}"#),
-                ),
-                Told::Is(true),
-            ),
-        ],
-    ),
-    (
-        4,
-        &[
-            (Call::Acquire(1, Some(4)), Told::New(4)),
-            (
-                Call::Source(
-                    1,
-                    4,
-                    "a",
-                    Some(r#"{"id":"a","name":"green apple","price":6}"#),
-                ),
-                Told::Is(true),
-            ),
-            (Call::Source(1, 4, "b", None), Told::Is(true)),
-        ],
+        Call::Source(
+            1,
+            3,
+            "b",
+            Some(r#"{"id":"b","name":"blue bowl","price":5}"#),
+        ),
+        DONE,
     ),
 ];
 
+/// That of the second.
+const ONE_ITEM: &[Row<'static>] = &[
+    (Call::Acquire(1, Some(4)), Ok(4)),
+    (
+        Call::Source(
+            1,
+            4,
+            "a",
+            Some(r#"{"id":"a","name":"green apple","price":6}"#),
+        ),
+        DONE,
+    ),
+    (Call::Source(1, 4, "b", None), DONE),
+];
+
 /// A table that no ledger answers so.
-const NO_TABLE: &[Row<'static>] = &[(Call::Merge, Told::Is(true))];
+const NO_TABLE: &[Row<'static>] = &[(Call::Merge, Ok(1))];
 
 /// The table of so many writes.
 fn table_of(count: WriteNo) -> &'static [Row<'static>] {
-    for (writes, rows) in TABLES {
-        if *writes == count {
-            return rows;
-        }
+    match count {
+        0 => NO_ITEM,
+        3 => TWO_ITEMS,
+        4 => ONE_ITEM,
+        _ => NO_TABLE,
     }
-    NO_TABLE
 }
 
 /// Deletes the own file of the newest of less than ten commits.
-fn delete_newest(alloc: Global, device: &mut MemoryDirectory) -> Result<(), Refusal> {
-    let mut newest = None;
-    for name in &device.names(alloc)? {
-        if let FileName::Commit(_) = *name {
-            newest = Some(*name);
+fn delete_newest(device: &mut MemoryDirectory) -> Result<(), Refusal> {
+    for below in 1..10 {
+        let name = FileName::Commit(10 - below);
+        if device.size(name).is_ok() {
+            return device.delete(name);
         }
     }
-    match newest {
-        Some(name) => device.delete(name),
-        None => Err(Refusal::NoCommit),
-    }
+    Err(Refusal::NoCommit)
 }
 
 /// The ledger of the directory without its newest commit.
@@ -221,7 +198,7 @@ fn open_before_newest(
     device: MemoryDirectory,
 ) -> Result<Ledger<MemoryDirectory>, Refusal> {
     let mut device = device;
-    delete_newest(alloc, &mut device)?;
+    delete_newest(&mut device)?;
     open(alloc, device)
 }
 
@@ -265,18 +242,30 @@ fn survives(alloc: Global, passes: u64) -> Result<bool, Refusal> {
     Ok(is_kept(alloc, device, kept)? && (passes < CALLS || kept == 4))
 }
 
-/// Whether the last commit does wherever the crash comes.
-fn survives_each(alloc: Global) -> Result<bool, Refusal> {
+/// The name of what isn't so of some call of a shift, the first.
+fn failing_at_each(alloc: Global) -> Result<Option<&'static str>, Refusal> {
     for passes in 0..=CALLS {
+        if !succeeds_later(alloc, passes)? {
+            return Ok(Some("each call that fails succeeds later"));
+        }
         if !survives(alloc, passes)? {
-            return Ok(false);
+            return Ok(Some("a crash leaves the newest commit"));
         }
     }
-    Ok(true)
+    Ok(None)
 }
 
-/// No commit that came is lost by a crash, wherever it comes.
+/// The name of the first case that isn't so.
+fn failing(alloc: Global) -> Result<Option<&'static str>, Refusal> {
+    if !refuses_without_change(alloc)? {
+        return Ok(Some("a refusal changes nothing"));
+    }
+    failing_at_each(alloc)
+}
+
+/// A refusal changes nothing; each call of a device that fails once succeeds later; and no commit that came is lost by a crash,
+/// wherever it comes.
 #[test]
-fn a_crash_leaves_the_newest_commit(rt: HostRuntime) -> Result<(), Fail> {
-    expect_yes(survives_each(rt.alloc()))
+fn nothing_is_lost_by_a_refusal_or_a_failure(rt: HostRuntime) -> Result<(), Fail> {
+    expect_none(failing(rt.alloc()))
 }

@@ -1,6 +1,8 @@
 //! Makes calls of a ledger that is gone then, and says whether they are answered as they have to be.
-use crate::ledger::ledger::calling::{Call, Row, answer, end};
-use crate::ledger::ledger::telling::{Told, are_same, is_so};
+use crate::ledger::answers::NO_30;
+use crate::ledger::ledger::calling::{Call, Row, answer};
+use crate::ledger::ledger::telling::{are_same, is_so};
+use crate::rights::making::end;
 use cat_base::{Refusal, WriteNo};
 use cat_directory::{Directory, Shelf};
 use cat_ledger::cat_lifetimes::rights::Rights;
@@ -14,17 +16,6 @@ pub(crate) enum Job<'a> {
     Calls(&'a [Row<'a>]),
     /// They are made up to the first that the directory fails at.
     UntilFault(&'a [Row<'a>]),
-}
-
-/// Makes the call of the row. Answers whether it is answered so.
-fn is_made<D: Directory + Shelf>(
-    alloc: Global,
-    ledger: &mut Ledger<D>,
-    rights: &mut Rights,
-    row: &Row<'_>,
-) -> bool {
-    let (call, want) = *row;
-    is_so(answer(alloc, ledger, rights, call), want)
 }
 
 /// Whether the ledger tells this of itself.
@@ -44,10 +35,10 @@ fn is_remade<D: Directory + Shelf>(
 ) -> Result<bool, AllocError> {
     let (call, want) = *row;
     let told = answer(alloc, ledger, rights, call);
-    if told != Told::No(Refusal::Device) {
+    if told != NO_30 {
         return Ok(is_so(told, want));
     }
-    Ok(stands(ledger, before)? && is_made(alloc, ledger, rights, row))
+    Ok(stands(ledger, before)? && is_so(answer(alloc, ledger, rights, call), want))
 }
 
 /// The same of what stands now.
@@ -85,7 +76,7 @@ fn kept_until_fault<D: Directory + Shelf>(
 ) -> WriteNo {
     let mut kept = 0;
     for (call, _) in rows {
-        if answer(alloc, ledger, rights, *call) == Told::No(Refusal::Device) {
+        if answer(alloc, ledger, rights, *call) == NO_30 {
             return kept;
         }
         if let Call::Commit(_) = call {
@@ -117,7 +108,7 @@ pub(crate) fn done<D: Directory + Shelf + Drop>(
     let mut ledger = ledger;
     let mut rights = Rights::new(alloc);
     let is_done = is_done(alloc, &mut ledger, &mut rights, job);
-    end(rights);
+    let _count = end(rights);
     let device = ledger.into_directory();
     let (is_so, count) = is_done?;
     Ok((is_so, count, device))

@@ -1,56 +1,52 @@
-//! Recorded views and rights to them, and what each call is answered.
-use crate::ledger::ledger::telling::{Told, number};
+//! Rights to recorded views, and what each call is answered.
+use crate::ledger::answers::{Answer, OTHER, done_where};
 use cat_base::{Refusal, SessionNo, Token};
 use cat_directory::{Directory, Shelf};
 use cat_ledger::cat_lifetimes::rights::Rights;
 use cat_ledger::{Grant, Ledger};
 use cat_views::Hold;
 
-/// Records a view of now.
-pub(crate) fn refresh<D: Directory + Shelf>(ledger: &mut Ledger<D>) -> Told {
-    number(ledger.refresh())
-}
-
 /// Keeps the right, whose session has none to its view yet, and answers so.
-fn keep(rights: &mut Rights, hold: Hold, kept: Told) -> Told {
+fn keep(rights: &mut Rights, hold: Hold, kept: Answer) -> Answer {
     if rights.get(hold.session(), hold.token()).is_some() {
         hold.give_up();
-        return Told::No(Refusal::Full);
+        return OTHER;
     }
     if let Err(hold) = rights.insert(hold) {
         hold.give_up();
-        return Told::No(Refusal::Memory);
+        return Err(Refusal::Memory);
     }
     kept
 }
 
-/// Grants the session the right to the view of the token, or of the newest one.
+/// Grants the session the right to the view of the token, or of the newest one, and answers its token. The session has none yet.
 pub(crate) fn acquire<D: Directory + Shelf>(
     ledger: &mut Ledger<D>,
     rights: &mut Rights,
     session: SessionNo,
     token: Option<Token>,
-) -> Told {
+) -> Answer {
     match ledger.acquire(session, token) {
         Ok(Grant::New(hold)) => {
             let token = hold.token();
-            keep(rights, hold, Told::New(token))
+            keep(rights, hold, Ok(token))
         }
-        Ok(Grant::Already(token)) => Told::Already(token),
-        Err(refusal) => Told::No(refusal),
+        Ok(Grant::Already(_)) => OTHER,
+        Err(refusal) => Err(refusal),
     }
 }
 
-/// Gives the right of the session back.
+/// Gives the right of the session back, and answers its token.
 fn give_back<D: Directory + Shelf>(
     ledger: &mut Ledger<D>,
     rights: &mut Rights,
     session: SessionNo,
     hold: Hold,
-) -> Told {
+) -> Answer {
     match ledger.release(session, hold) {
-        Ok(released) => Told::Back(released.session(), released.token()),
-        Err(hold) => keep(rights, hold, Told::No(Refusal::NotHeld)),
+        Ok(released) if released.session() == session => Ok(released.token()),
+        Ok(_) => OTHER,
+        Err(hold) => keep(rights, hold, Err(Refusal::NotHeld)),
     }
 }
 
@@ -60,35 +56,12 @@ pub(crate) fn release<D: Directory + Shelf>(
     rights: &mut Rights,
     sessions: (SessionNo, SessionNo),
     token: Token,
-) -> Told {
+) -> Answer {
     let (session, owner) = sessions;
     match rights.remove(owner, token) {
         Some(hold) => give_back(ledger, rights, session, hold),
-        None => Told::No(Refusal::Gone),
+        None => OTHER,
     }
-}
-
-/// Lets the session hold the view of the token, or of the newest one, by the ledger alone.
-pub(crate) fn hold<D: Directory + Shelf>(
-    ledger: &mut Ledger<D>,
-    session: SessionNo,
-    token: Option<Token>,
-) -> Told {
-    number(ledger.hold(session, token))
-}
-
-/// Ends the session's hold of the view of the token.
-pub(crate) fn let_go<D: Directory + Shelf>(
-    ledger: &mut Ledger<D>,
-    session: SessionNo,
-    token: Token,
-) -> Told {
-    Told::Is(ledger.let_go(session, token))
-}
-
-/// Takes views out.
-pub(crate) fn prune<D: Directory + Shelf>(ledger: &mut Ledger<D>, count: u64) -> Told {
-    number(ledger.prune(count))
 }
 
 /// Whether the text is the wanted one; none is wanted where there is none.
@@ -100,16 +73,16 @@ fn is_text(found: &Option<Vec<u8>>, want: Option<&str>) -> bool {
     }
 }
 
-/// Whether the text of the item in the view that the session holds is the wanted one.
+/// Asks for the text of the item in the view that the session holds, which has to be the wanted one.
 pub(crate) fn source<D: Directory + Shelf>(
     ledger: &mut Ledger<D>,
     right: (SessionNo, Token),
     id: &str,
     want: Option<&str>,
-) -> Told {
+) -> Answer {
     let (session, token) = right;
     match ledger.source(session, token, id) {
-        Ok(found) => Told::Is(is_text(&found, want)),
-        Err(refusal) => Told::No(refusal),
+        Ok(found) => done_where(is_text(&found, want)),
+        Err(refusal) => Err(refusal),
     }
 }

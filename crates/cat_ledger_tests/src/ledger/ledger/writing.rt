@@ -1,23 +1,19 @@
-//! Writes and commits, and what each is answered.
-use crate::ledger::ledger::telling::{Told, number};
+//! Items that are put, and what that is answered.
+use crate::ledger::answers::Answer;
 use cat_base::Refusal;
 use cat_directory::{Directory, Shelf};
 use cat_items::{Item, Schema};
 use cat_ledger::Ledger;
 use std::alloc::Global;
 
-/// Puts the item, if it could be read.
-fn put_item<D: Directory + Shelf>(ledger: &mut Ledger<D>, item: Result<Item, Refusal>) -> Told {
-    match item {
-        Ok(item) => number(ledger.put(item)),
-        Err(refusal) => Told::No(refusal),
-    }
-}
-
 /// Puts the item of this text.
-pub(crate) fn put<D: Directory + Shelf>(alloc: Global, ledger: &mut Ledger<D>, text: &str) -> Told {
-    let item = ledger.schema().item(alloc, text.as_bytes());
-    put_item(ledger, item)
+pub(crate) fn put<D: Directory + Shelf>(
+    alloc: Global,
+    ledger: &mut Ledger<D>,
+    text: &str,
+) -> Answer {
+    let item = ledger.schema().item(alloc, text.as_bytes())?;
+    ledger.put(item)
 }
 
 /// The item that the text is under these fields.
@@ -32,16 +28,7 @@ pub(crate) fn put_under<D: Directory + Shelf>(
     ledger: &mut Ledger<D>,
     fields: &str,
     text: &str,
-) -> Told {
-    put_item(ledger, item_under(alloc, fields, text))
-}
-
-/// Deletes the item of the id.
-pub(crate) fn delete<D: Directory + Shelf>(ledger: &mut Ledger<D>, id: &str) -> Told {
-    number(ledger.delete(id))
-}
-
-/// Keeps a commit with this text.
-pub(crate) fn commit<D: Directory + Shelf>(ledger: &mut Ledger<D>, text: &str) -> Told {
-    number(ledger.commit(text))
+) -> Answer {
+    let item = item_under(alloc, fields, text)?;
+    ledger.put(item)
 }

@@ -1,5 +1,6 @@
 //! The state of a ledger where nothing is, and its calls with what they ask for.
-use cat_base::{Generation, LAST_NUMBER, Refusal};
+use crate::ledger::answers::{Answer, DONE, OTHER};
+use cat_base::{LAST_NUMBER, Refusal};
 use cat_directory::{Faulty, MemoryDirectory};
 use cat_items::Schema;
 use cat_ledger::cat_ledger_state::cat_commits::commit_text_ok;
@@ -21,45 +22,35 @@ pub(crate) fn empty(alloc: Global) -> Result<Core, Refusal> {
 }
 
 /// Puts the item, where there is room for it and a number is left.
-pub(crate) fn put(core: &mut Core, alloc: Global, text: &str) -> Result<(), Refusal> {
-    if core.is_due() {
-        return Err(Refusal::Full);
-    }
-    if core.count() >= LAST_NUMBER {
-        return Err(Refusal::Spent);
+pub(crate) fn put(core: &mut Core, alloc: Global, text: &str) -> Answer {
+    if core.is_due() || core.count() >= LAST_NUMBER {
+        return OTHER;
     }
     let item = core.schema().item(alloc, text.as_bytes())?;
-    Ok(core.put(item)?)
+    core.put(item)?;
+    DONE
 }
 
 /// Deletes the item of the id, where a number is left.
-pub(crate) fn delete(core: &mut Core, id: &str) -> Result<(), Refusal> {
+pub(crate) fn delete(core: &mut Core, id: &str) -> Answer {
     if core.count() >= LAST_NUMBER {
-        return Err(Refusal::Spent);
+        return OTHER;
     }
-    Ok(core.delete(id)?)
-}
-
-/// Writes what waits to files.
-pub(crate) fn flush(core: &mut Core, device: &mut Device) -> Result<(), Refusal> {
-    core.flush(device)
+    core.delete(id)?;
+    DONE
 }
 
 /// Keeps a commit with this text, where nothing waits.
-fn commit_flushed(core: &mut Core, device: &mut Device, text: &str) -> Result<Generation, Refusal> {
+pub(crate) fn commit_flushed(core: &mut Core, device: &mut Device, text: &str) -> Answer {
     if !core.is_flushed() || !commit_text_ok(text) {
-        return Err(Refusal::Kind);
+        return OTHER;
     }
     core.commit(device, text)
 }
 
 /// Flushes, and keeps a commit with this text.
-pub(crate) fn commit(
-    core: &mut Core,
-    device: &mut Device,
-    text: &str,
-) -> Result<Generation, Refusal> {
-    flush(core, device)?;
+pub(crate) fn commit(core: &mut Core, device: &mut Device, text: &str) -> Answer {
+    core.flush(device)?;
     commit_flushed(core, device, text)
 }
 
@@ -71,18 +62,15 @@ fn merge(core: &mut Core, alloc: Global, device: &mut Device) -> Result<MergeNew
     }
 }
 
-/// Merges all segments, in steps until one copies no row, three at most; answers what the last one did.
-pub(crate) fn merge_all(
-    core: &mut Core,
-    alloc: Global,
-    device: &mut Device,
-) -> Result<MergeNews, Refusal> {
-    let mut news = force(core, device)?;
+/// Merges all segments, in steps until one copies no row, three at most, which has to end the merge.
+pub(crate) fn merge_all(core: &mut Core, alloc: Global, device: &mut Device) -> Answer {
+    force(core, device)?;
     for _ in 0..3 {
-        news = merge(core, alloc, device)?;
-        if !matches!(news, MergeNews::Copied(_)) {
-            return Ok(news);
+        match merge(core, alloc, device)? {
+            MergeNews::Copied(_) => {}
+            MergeNews::Done => return DONE,
+            _ => return OTHER,
         }
     }
-    Ok(news)
+    OTHER
 }

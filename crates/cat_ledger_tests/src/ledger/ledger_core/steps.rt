@@ -1,21 +1,23 @@
 //! Steps of a ledger and its device, and what each has to be answered.
-use crate::ledger::ledger_core::calling::{Device, commit, delete, empty, flush, merge_all, put};
-use crate::ledger::ledger_core::telling::{
-    tell_counts, tell_done, tell_file, tell_newest, tell_news, tell_number, tell_standing,
-};
+use crate::ledger::answers::{Answer, DONE, OTHER, done_where};
+use crate::ledger::ledger_core::calling::{Device, commit, delete, empty, merge_all, put};
+use crate::ledger::ledger_core::telling::{Stood, file, has_counts, has_standing, has_users};
 use cat_base::Refusal;
 use cat_directory::{Faults, Faulty, FileName, Holder, MemoryDirectory};
 use cat_ledger::cat_ledger_state::Core;
 use std::alloc::Global;
 
 /// A step, and what it is answered.
-pub(crate) type Row<'a> = (Step<'a>, &'a str);
+pub(crate) type Row<'a> = (Step<'a>, Answer);
 
-/// A name; steps in a ledger where nothing is; of how many calls of the device behind them each fails, in a ledger of its own; and
-/// tables of the steps behind that.
-pub(crate) type Case<'a> = (&'static str, &'a [Row<'a>], u64, &'a [&'a [Row<'a>]]);
+/// A name; of how many calls of the device each fails, in a ledger of its own; and the steps then, the first and the last.
+pub(crate) type Case<'a> = (&'static str, u64, &'a [Row<'a>], &'a [Row<'a>]);
 
-/// A step of a ledger and its device.
+/// Steps in a ledger where nothing is, before a call fails; steps between the first and the last of each case; and the cases. A
+/// table that cases share stands here once: a test is proved with all tables that it names, each as often as it is named.
+pub(crate) type Group<'a> = (&'a [Row<'a>], &'a [Row<'a>], &'a [Case<'a>]);
+
+/// A step of a ledger and its device. One that asks for something says what has to be.
 #[derive(Clone, Copy)]
 pub(crate) enum Step<'a> {
     Put(&'a str),
@@ -32,162 +34,121 @@ pub(crate) enum Step<'a> {
     Calls,
     /// How many of them failed.
     Failures,
-    /// Whether the file has these bytes: `same`, `other`, `empty` or `absent`.
+    /// The file has these bytes.
     File(FileName, &'a [u8]),
-    /// The segments.
-    Standing,
-    /// Counts, and the users of these names.
-    Told(&'a [FileName]),
+    /// These segments stand, and none is merged.
+    Standing(&'a [Stood<'a>]),
+    /// So many writes there were, items wait, segments stand, and files are pending.
+    Counts(u64, usize, usize, u64),
+    /// The files have so many users.
+    Users(&'a [(FileName, u64)]),
+    /// The number of the newest commit.
     Newest,
 }
 
-/// Tells what a step is answered that is about the ledger alone.
-fn tell_core(
-    text: &mut String,
-    alloc: Global,
-    core: &mut Core,
-    step: Step<'_>,
-) -> Result<(), Refusal> {
-    match step {
-        Step::Put(item) => tell_done(text, put(core, alloc, item)),
-        Step::Delete(id) => tell_done(text, delete(core, id)),
-        Step::Standing => tell_standing(text, core),
-        Step::Told(names) => tell_counts(text, core, names),
-        Step::Newest => tell_newest(text, core),
-        _ => Err(Refusal::Line),
-    }
-}
-
-/// Lets other calls of the device fail.
-fn set_faults(device: &mut Device, faults: Faults) {
-    device.set_faults(faults);
-}
-
-/// Tells what a step is answered that is about the device alone.
-fn tell_device(
-    text: &mut String,
-    alloc: Global,
-    device: &mut Device,
-    step: Step<'_>,
-) -> Result<(), Refusal> {
+/// What a step is answered that is about the device alone.
+fn answer_device(alloc: Global, device: &mut Device, step: Step<'_>) -> Answer {
     match step {
         Step::Fail(faults) => {
-            set_faults(device, faults);
-            tell_done(text, Ok(()))
+            device.set_faults(faults);
+            DONE
         }
-        Step::Calls => tell_number(text, Ok(device.calls())),
-        Step::Failures => tell_number(text, Ok(device.failures())),
-        Step::File(name, said) => tell_file(text, alloc, device, name, said),
-        _ => Err(Refusal::Line),
+        Step::Calls => Ok(device.calls()),
+        Step::Failures => Ok(device.failures()),
+        Step::File(name, want) => file(alloc, device, name, want),
+        _ => OTHER,
     }
 }
 
-/// Deletes the files that nobody needs.
-fn sweep(core: &mut Core, device: &mut Device) -> Result<u64, Refusal> {
-    core.sweep(device)
-}
-
-/// Tells what a step is answered.
-fn tell(
-    text: &mut String,
-    alloc: Global,
-    core: &mut Core,
-    device: &mut Device,
-    step: Step<'_>,
-) -> Result<(), Refusal> {
+/// What a step is answered.
+fn answer(alloc: Global, core: &mut Core, device: &mut Device, step: Step<'_>) -> Answer {
     match step {
-        Step::Flush => tell_done(text, flush(core, device)),
-        Step::Commit(said) => tell_number(text, commit(core, device, said)),
-        Step::Sweep => tell_number(text, sweep(core, device)),
-        Step::MergeAll => tell_news(text, merge_all(core, alloc, device)),
-        Step::Fail(_) | Step::Calls | Step::Failures | Step::File(_, _) => {
-            tell_device(text, alloc, device, step)
+        Step::Put(item) => put(core, alloc, item),
+        Step::Delete(id) => delete(core, id),
+        Step::Flush => core.flush(device).and(DONE),
+        Step::Commit(text) => commit(core, device, text),
+        Step::Sweep => core.sweep(device),
+        Step::MergeAll => merge_all(core, alloc, device),
+        Step::Standing(want) => done_where(has_standing(core, want)),
+        Step::Counts(writes, waiting, standing, pending) => {
+            done_where(has_counts(core, (writes, waiting, standing, pending)))
         }
-        _ => tell_core(text, alloc, core, step),
+        Step::Users(want) => done_where(has_users(core, want)),
+        Step::Newest => Ok(core.newest().unwrap_or(0)),
+        _ => answer_device(alloc, device, step),
     }
-}
-
-/// Takes the step of the row. Answers whether it is answered so.
-fn is_answered(
-    alloc: Global,
-    core: &mut Core,
-    device: &mut Device,
-    row: &Row<'_>,
-) -> Result<bool, Refusal> {
-    let (step, want) = *row;
-    let mut got = String::new(alloc);
-    tell(&mut got, alloc, core, device, step)?;
-    Ok(got.as_str() == want)
 }
 
 /// Takes the steps in turn. Answers whether each is answered so.
-fn are_answered(
-    alloc: Global,
-    core: &mut Core,
-    device: &mut Device,
-    rows: &[Row<'_>],
-) -> Result<bool, Refusal> {
-    for row in rows {
-        if !is_answered(alloc, core, device, row)? {
-            return Ok(false);
+fn are_answered(alloc: Global, core: &mut Core, device: &mut Device, rows: &[Row<'_>]) -> bool {
+    for (step, want) in rows {
+        if answer(alloc, core, device, *step) != *want {
+            return false;
         }
     }
-    Ok(true)
+    true
 }
 
-/// The same of the steps of each table in turn.
-fn are_all_answered(
-    alloc: Global,
-    core: &mut Core,
-    device: &mut Device,
-    tables: &[&[Row<'_>]],
-) -> Result<bool, Refusal> {
-    for rows in tables {
-        if !are_answered(alloc, core, device, rows)? {
-            return Ok(false);
-        }
-    }
-    Ok(true)
-}
-
-/// Takes the steps of the case, with the failure of the device's call behind so many between them.
+/// Takes the steps of the case, with the failure of the device's call behind so many before the first.
 fn are_answered_failing(
     alloc: Global,
     core: &mut Core,
     device: &mut Device,
+    group: &Group<'_>,
     case: &Case<'_>,
     passing: u64,
-) -> Result<bool, Refusal> {
-    let (_, before, _, behind) = *case;
-    if !are_answered(alloc, core, device, before)? {
-        return Ok(false);
+) -> bool {
+    let (before, between, _) = *group;
+    let (_, _, first, last) = *case;
+    if !are_answered(alloc, core, device, before) {
+        return false;
     }
-    set_faults(device, Faults::One(passing));
-    are_all_answered(alloc, core, device, behind)
+    device.set_faults(Faults::One(passing));
+    are_answered(alloc, core, device, first)
+        && are_answered(alloc, core, device, between)
+        && are_answered(alloc, core, device, last)
 }
 
 /// The same in a ledger where nothing is, over a device without a file.
-fn is_so_at(alloc: Global, case: &Case<'_>, passing: u64) -> Result<bool, Refusal> {
+fn is_so_at(
+    alloc: Global,
+    group: &Group<'_>,
+    case: &Case<'_>,
+    passing: u64,
+) -> Result<bool, Refusal> {
     let mut core = empty(alloc)?;
     let mut device = Faulty::new(MemoryDirectory::new(alloc), Faults::Never);
-    are_answered_failing(alloc, &mut core, &mut device, case, passing)
+    Ok(are_answered_failing(alloc, &mut core, &mut device, group, case, passing))
 }
 
 /// The same for each call of the case.
-fn is_so(alloc: Global, case: &Case<'_>) -> Result<bool, Refusal> {
-    for passing in 0..case.2 {
-        if !is_so_at(alloc, case, passing)? {
+fn is_so(alloc: Global, group: &Group<'_>, case: &Case<'_>) -> Result<bool, Refusal> {
+    for passing in 0..case.1 {
+        if !is_so_at(alloc, group, case, passing)? {
             return Ok(false);
         }
     }
     Ok(true)
 }
 
-/// The name of the first case that isn't so.
-pub(crate) fn failing(alloc: Global, cases: &[Case<'_>]) -> Result<Option<&'static str>, Refusal> {
-    for case in cases {
-        if !is_so(alloc, case)? {
+/// The name of the first case of the group that isn't so.
+fn failing_of(alloc: Global, group: &Group<'_>) -> Result<Option<&'static str>, Refusal> {
+    for case in group.2 {
+        if !is_so(alloc, group, case)? {
             return Ok(Some(case.0));
+        }
+    }
+    Ok(None)
+}
+
+/// The name of the first case that isn't so.
+pub(crate) fn failing(
+    alloc: Global,
+    groups: &[Group<'_>],
+) -> Result<Option<&'static str>, Refusal> {
+    for group in groups {
+        if let Some(name) = failing_of(alloc, group)? {
+            return Ok(Some(name));
         }
     }
     Ok(None)
