@@ -5,6 +5,7 @@ mod dice;
 
 use crate::compared::dice::Dice;
 use crate::plain::{Answer, Plain};
+use crate::verdict::expect_none;
 use cat_base::Refusal;
 use cat_directory::MemoryDirectory;
 use cat_service::World;
@@ -95,57 +96,53 @@ fn has_sets(world: &mut World<MemoryDirectory>) -> bool {
     }
 }
 
-/// How many lines of the dice both answer alike, each with what is due behind it: all, or those before the first one that isn't so.
-fn alike(
+/// Whether both answer all lines of the dice alike, each with what is due behind it.
+fn are_alike(
     alloc: Global,
     world: &mut World<MemoryDirectory>,
     plain: &mut Plain,
     dice: &mut Dice,
-) -> Result<u64, Refusal> {
+) -> Result<bool, Refusal> {
     for number in 0..COUNT {
         if !is_answered_alike(alloc, world, plain, dice)? || !is_maintained(world, number) {
-            return Ok(number);
+            return Ok(false);
         }
     }
-    Ok(COUNT)
+    Ok(true)
 }
 
-/// The same of the world and a plain catalogue of its own; and whether replies came from cached sets.
-fn compared(
-    alloc: Global,
-    world: &mut World<MemoryDirectory>,
-    seed: u64,
-) -> Result<(u64, bool), Refusal> {
+/// Whether the world and a plain catalogue of its own do, some of it by cached sets.
+fn is_alike(alloc: Global, world: &mut World<MemoryDirectory>, seed: u64) -> Result<bool, Refusal> {
     let mut plain = Plain::open(alloc, SHOP)?;
-    let alike = alike(alloc, world, &mut plain, &mut Dice::new(seed))?;
-    Ok((alike, has_sets(world)))
+    Ok(are_alike(alloc, world, &mut plain, &mut Dice::new(seed))? && has_sets(world))
 }
 
 /// The same in a world of its own.
-fn compared_from(alloc: Global, seed: u64) -> Result<(u64, bool), Refusal> {
+fn is_alike_from(alloc: Global, seed: u64) -> Result<bool, Refusal> {
     match World::open(alloc, MemoryDirectory::new(alloc), SHOP) {
         Ok(mut world) => {
-            let told = compared(alloc, &mut world, seed);
+            let is_alike = is_alike(alloc, &mut world, seed);
             let _directory = world.end();
-            told
+            is_alike
         }
         Err(Unopened { refusal, seed: _ }) => Err(refusal),
     }
 }
 
-/// Fails with the run, and how many lines of it were answered alike, unless all were, some of them by cached sets.
-fn expect_alike(alloc: Global, seed: u64) -> Result<(), Fail> {
-    let (count, has_sets) = compared_from(alloc, seed)?;
-    if count == COUNT && has_sets {
-        return Ok(());
+/// The runs, each with a seed of the dice.
+const RUNS: &[(&str, u64)] = &[("run 1", 1), ("run 2", 2), ("run 3", 3)];
+
+/// The name of the first run that isn't answered alike, if there is one.
+fn failing(alloc: Global, runs: &[(&'static str, u64)]) -> Result<Option<&'static str>, Refusal> {
+    for run in runs {
+        if !is_alike_from(alloc, run.1)? {
+            return Ok(Some(run.0));
+        }
     }
-    Err(Fail::new(format!(in alloc; "run {seed}: {count} lines are answered alike")?))
+    Ok(None)
 }
 
 #[test]
 fn the_service_answers_as_plain_lists_do(rt: HostRuntime) -> Result<(), Fail> {
-    for seed in 1..=3 {
-        expect_alike(rt.alloc(), seed)?;
-    }
-    Ok(())
+    expect_none(failing(rt.alloc(), RUNS))
 }

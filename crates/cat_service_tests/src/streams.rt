@@ -15,30 +15,6 @@ pub(crate) struct Reader<'a> {
     pub(crate) due: u32,
 }
 
-impl<'a> Reader<'a> {
-    /// Gives all of these bytes one at a time, and is interrupted so often before each, and before its end.
-    pub(crate) fn interrupted(left: &'a [u8], interrupts: u32) -> Reader<'a> {
-        Reader {
-            left,
-            step: 1,
-            good: usize::MAX,
-            interrupts,
-            due: interrupts,
-        }
-    }
-
-    /// Gives so many of these bytes, at most `step` at once, and then fails for ever.
-    pub(crate) fn failing(left: &'a [u8], step: usize, good: usize) -> Reader<'a> {
-        Reader {
-            left,
-            step,
-            good,
-            interrupts: 0,
-            due: 0,
-        }
-    }
-}
-
 impl Read for Reader<'_> {
     ghost remaining = { λ r. Some r.left.now };
 
@@ -55,6 +31,11 @@ impl Read for Reader<'_> {
         let n = self.left.read(&mut buf[..most])?;
         self.good -= n;
         Ok(n)
+    }
+
+    // Nothing calls it. Left out, it would be proved from its default, which takes longer.
+    fn read_exact(&mut self, _buf: &mut [u8]) -> io::Result<()> {
+        Err(ErrorKind::Unsupported.into())
     }
 }
 
@@ -104,6 +85,11 @@ impl Write for Writer {
         self.held.extend_from_slice(&buf[..n])?;
         self.room -= n;
         Ok(n)
+    }
+
+    // Nothing calls it, either.
+    fn write_all(&mut self, _buf: &[u8]) -> io::Result<()> {
+        Err(ErrorKind::Unsupported.into())
     }
 
     fn flush(&mut self) -> io::Result<()> {

@@ -1,21 +1,15 @@
-//! What a test comes down to: whether it is so. Nothing here ends the process, so tests that end in these are proved sooner than
-//! ones that assert.
+//! What a test comes down to: whether it is so, or the name of the first case that isn't. Nothing here ends the process, so tests
+//! that end in these are proved sooner than ones that assert.
 use std::fmt::Debug;
 use std::test::Fail;
 
-/// Fails unless it is so.
-pub(crate) fn expect(is_so: bool) -> Result<(), Fail> {
-    if is_so {
-        Ok(())
-    } else {
-        Err(Fail::new("it isn't so"))
-    }
-}
-
-/// Fails unless the answer is yes. An error is told as it is.
-pub(crate) fn expect_yes<E: Debug + Drop>(answer: Result<bool, E>) -> Result<(), Fail> {
-    match answer {
-        Ok(is_so) => expect(is_so),
+/// Fails with the name of the case that isn't so, unless there is none. An error is told as it is.
+pub(crate) fn expect_none<E: Debug + Drop>(
+    failing: Result<Option<&'static str>, E>,
+) -> Result<(), Fail> {
+    match failing {
+        Ok(None) => Ok(()),
+        Ok(Some(name)) => Err(Fail::new(name)),
         Err(error) => Err(Fail::from(error)),
     }
 }

@@ -119,7 +119,7 @@ const DIMENSIONS: &[&str] = &["color", "color", "color", "brand"];
 #[derive(Drop)]
 pub(super) struct Dice {
     state: u64,
-    /// The newest four tokens that were recorded, the newest last.
+    /// The newest four tokens that were recorded, the newest first.
     tokens: [Token; 4],
 }
 
@@ -133,8 +133,8 @@ impl Dice {
 
     /// Takes a token that was recorded.
     pub(super) fn take(&mut self, token: Token) {
-        let [_, second, third, newest] = self.tokens;
-        self.tokens = [second, third, newest, token];
+        let [newest, second, third, _] = self.tokens;
+        self.tokens = [token, newest, second, third];
     }
 
     fn throw(&mut self, sides: u64) -> u64 {
@@ -145,36 +145,28 @@ impl Dice {
         (self.state >> 33) % sides.max(1)
     }
 
-    fn pick(&mut self, texts: &[&'static str]) -> &'static str {
-        let at = self.throw(texts.len() as u64) as usize;
-        texts.get(at).copied().unwrap_or("")
-    }
-
-    fn sort(&mut self) -> Sort<'static> {
-        let at = self.throw(SORTS.len() as u64) as usize;
-        SORTS.get(at).copied().unwrap_or(Sort::Added)
+    /// One of these.
+    fn pick<T: Copy>(&mut self, from: &[T], where_none: T) -> T {
+        let at = self.throw(from.len() as u64) as usize;
+        from.get(at).copied().unwrap_or(where_none)
     }
 
     /// One of the newest four tokens.
     fn token(&mut self) -> Token {
-        let back = self.throw(4) as usize;
-        self.tokens.iter().rev().nth(back).copied().unwrap_or(0)
+        let tokens = self.tokens;
+        self.pick(&tokens, 0)
     }
 
-    /// The mark of a FIND: none, or the number of a write not long before the token.
-    fn mark(&mut self, token: Token) -> Option<u64> {
-        match self.throw(3) {
-            0 => Some(token.saturating_sub(self.throw(12))),
-            _ => None,
-        }
-    }
-
+    /// A FIND, whose mark is none, or the number of a write not long before the token.
     fn find(&mut self) -> Find<'static> {
         let token = self.token();
         let count = self.throw(5);
-        let sort = self.sort();
-        let query = self.pick(QUERIES);
-        let mark = self.mark(token);
+        let sort = self.pick(SORTS, Sort::Added);
+        let query = self.pick(QUERIES, "");
+        let mark = match self.throw(3) {
+            0 => Some(token.saturating_sub(self.throw(12))),
+            _ => None,
+        };
         Find {
             token,
             count,
@@ -186,9 +178,9 @@ impl Dice {
 
     fn facets(&mut self) -> Facets<'static> {
         let token = self.token();
-        let dimension = self.pick(DIMENSIONS);
+        let dimension = self.pick(DIMENSIONS, "");
         let count = self.throw(4);
-        let query = self.pick(QUERIES);
+        let query = self.pick(QUERIES, "");
         Facets {
             token,
             dimension,
@@ -202,7 +194,7 @@ impl Dice {
         let text = self.throw(TEXTS as u64) as usize;
         match self.throw(8) {
             0 => Command::Delete(IDS.get(id).copied().unwrap_or("")),
-            1 => Command::DeleteWhere(self.pick(DELETED)),
+            1 => Command::DeleteWhere(self.pick(DELETED, "")),
             _ => Command::Put(item(id, text)),
         }
     }
@@ -218,22 +210,6 @@ impl Dice {
         }
     }
 
-    fn get(&mut self) -> Command<'static> {
-        let token = self.token();
-        let id = self.pick(IDS);
-        Command::Get { token, id }
-    }
-
-    fn command(&mut self) -> Command<'static> {
-        match self.throw(9) {
-            0..=2 => self.write(),
-            3 | 4 => self.hold(),
-            5 | 6 => Command::Find(self.find()),
-            7 => Command::Facets(self.facets()),
-            _ => self.get(),
-        }
-    }
-
     /// A line of a command that both answer.
     pub(super) fn line(&mut self) -> Line<'static> {
         let session = match self.throw(3) {
@@ -241,7 +217,16 @@ impl Dice {
             1 => 2,
             _ => 3,
         };
-        let command = self.command();
+        let command = match self.throw(9) {
+            0..=2 => self.write(),
+            3 | 4 => self.hold(),
+            5 | 6 => Command::Find(self.find()),
+            7 => Command::Facets(self.facets()),
+            _ => Command::Get {
+                token: self.token(),
+                id: self.pick(IDS, ""),
+            },
+        };
         Line { session, command }
     }
 }

@@ -12,7 +12,6 @@ ghost use Rattle.cat_search.specs.cat_query.View.{query_of};
 
 use crate::plain::counts::{Counts, LabelCount};
 use crate::plain::record::Record;
-use crate::plain::tables::copy_records;
 use cat_base::{Text, TextSet};
 use cat_query::Query;
 use cat_search::Best;
@@ -50,7 +49,12 @@ fn labels_in<'a>(item: &'a Item, dim: &str) -> &'a [Text]
 fn is_among(labels: &[Text], label: &str) -> bool
     ensures { result ≡ list_any (same_text label.now) labels.now }
 {
-    labels.iter().any(|other| label == other.as_str())
+    for other in labels {
+        if label == other.as_str() {
+            return true;
+        }
+    }
+    false
 }
 
 /// Whether the hit has the label.
@@ -71,21 +75,26 @@ fn has_some_label(hit: &Record, dim: &str) -> bool
 fn count_labelled(hits: &[Record], dim: &str) -> usize
     ensures { result ≡ count_by (λ h. ltb 0 (length (labels_of dim.now h))) hits.now }
 {
-    hits.iter().filter(|hit| has_some_label(hit, dim)).count()
+    let mut count = 0;
+    for hit in hits {
+        if has_some_label(hit, dim) {
+            count += 1;
+        }
+    }
+    count
 }
 
 /// How many hits have the label.
 fn count_with(hits: &[Record], dim: &str, label: &str) -> usize
     ensures { result ≡ count_by (λ h. list_any (same_text label.now) (labels_of dim.now h)) hits.now }
 {
-    hits.iter().filter(|hit| has_label(hit, dim, label)).count()
-}
-
-/// Keeps the records whose items the query matches.
-fn keep_hits(records: &mut Vec<Record>, query: &Query)
-    ensures { records.new.items ≡ filter (λ r. matches (query_of query.now) r.item) records.old.items }
-{
-    records.retain(|record| query.accepts(record.item()));
+    let mut count = 0;
+    for hit in hits {
+        if has_label(hit, dim, label) {
+            count += 1;
+        }
+    }
+    count
 }
 
 /// The hits of the query among the records.
@@ -96,8 +105,12 @@ pub(crate) fn hits_of(
 ) -> Result<Vec<Record>, AllocError>
     ensures ok { IfOk result (λ hs. hs.items ≡ hits records.now (query_of query.now)) }
 {
-    let mut found = copy_records(alloc, records)?;
-    keep_hits(&mut found, query);
+    let mut found = Vec::new(alloc);
+    for record in records {
+        if query.accepts(record.item()) {
+            found.push(record.copy()?)?;
+        }
+    }
     Ok(found)
 }
 

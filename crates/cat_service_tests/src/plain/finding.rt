@@ -89,7 +89,12 @@ fn can_sort(schema: &Schema, sort: Sort<'_>) -> bool
 fn has_number(records: &[Record], number: WriteNo) -> bool
     ensures { result ≡ list_any (λ r. r.number == number) records.now }
 {
-    records.iter().any(|record| record.number() == number)
+    for record in records {
+        if record.number() == number {
+            return true;
+        }
+    }
+    false
 }
 
 /// Whether the mark is the number of a record. So it is where there is none.
@@ -203,9 +208,12 @@ fn is_mark_before(sort: Sort<'_>, mark: WriteNo, record: &Record, hit: &Record) 
 fn is_behind(records: &[Record], sort: Sort<'_>, mark: WriteNo, hit: &Record) -> bool
     ensures { result ≡ list_any (λ m. (m.number == mark) && before (sort_of sort.entry) m hit.now) records.now }
 {
-    records
-        .iter()
-        .any(|record| is_mark_before(sort, mark, record, hit))
+    for record in records {
+        if is_mark_before(sort, mark, record, hit) {
+            return true;
+        }
+    }
+    false
 }
 
 /// Keeps the hits that the mark comes before, and all without a mark.

@@ -8,8 +8,8 @@ use std::marker::Model;
 /// That a session holds a token.
 #[derive(Clone, Copy)]
 pub(crate) struct Hold {
-    session: SessionNo,
-    token: Token,
+    pub(crate) session: SessionNo,
+    pub(crate) token: Token,
 }
 
 impl Model for Hold {
@@ -23,18 +23,6 @@ impl Model for Hold {
 }
 
 impl Hold {
-    pub(crate) fn new(session: SessionNo, token: Token) -> Hold
-        ensures { result ≡ record { session = session; token = token } }
-    {
-        Hold { session, token }
-    }
-
-    fn token(&self) -> Token
-        ensures { result ≡ self.now.token }
-    {
-        self.token
-    }
-
     /// Whether this is the session's hold of the token.
     fn is_of(&self, session: SessionNo, token: Token) -> bool
         ensures { result ≡ ((self.now.session == session) && (self.now.token == token)) }
@@ -47,14 +35,24 @@ impl Hold {
 pub(crate) fn is_holding(holds: &[Hold], session: SessionNo, token: Token) -> bool
     ensures { result ≡ has_hold holds.now session token }
 {
-    holds.iter().any(|hold| hold.is_of(session, token))
+    for hold in holds {
+        if hold.is_of(session, token) {
+            return true;
+        }
+    }
+    false
 }
 
 /// Whether any session holds the token.
 pub(crate) fn is_held(holds: &[Hold], token: Token) -> bool
     ensures { result ≡ held_in holds.now token }
 {
-    holds.iter().any(|hold| hold.token() == token)
+    for hold in holds {
+        if hold.token == token {
+            return true;
+        }
+    }
+    false
 }
 
 /// Ends the session's hold of the token.

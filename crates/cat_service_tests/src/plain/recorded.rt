@@ -55,7 +55,12 @@ impl RecordedTable {
 pub(crate) fn is_recorded(views: &[RecordedTable], token: Token) -> bool
     ensures { result ≡ has_view views.now token }
 {
-    views.iter().any(|view| view.token() == token)
+    for view in views {
+        if view.token() == token {
+            return true;
+        }
+    }
+    false
 }
 
 /// The table that is recorded under the token.
@@ -130,7 +135,12 @@ fn tokens_of(alloc: Global, views: &[RecordedTable]) -> Result<Vec<Token>, Alloc
 fn is_among_greatest(tokens: &[Token], token: Token, count: u64) -> bool
     ensures { result ≡ ltb (count_by (λ u. ltb token u) tokens.now) (max count 1) }
 {
-    let greater = tokens.iter().filter(|other| token < **other).count() as u64;
+    let mut greater = 0;
+    for other in tokens {
+        if token < *other {
+            greater += 1;
+        }
+    }
     greater < count.max(1)
 }
 

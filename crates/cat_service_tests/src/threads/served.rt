@@ -1,48 +1,55 @@
-//! What tests of threads share: two sessions that are run with a merger and a warmer beside them, and a service that begins and ends.
-ghost use Rattle.std.specs.Prelude.{◌≡◌};
+//! Two sessions that are run with a merger and a warmer beside them, over a service that begins and ends.
+ghost use Rattle.std.specs.Prelude.{◌≡◌, [], true};
+ghost use Rattle.cat_threads.specs.cat_commands.cat_ledger.Ledgers.{shape_in};
+ghost use Rattle.cat_threads.specs.service.Passes.{all_different, seated_by};
+ghost use Rattle.cat_threads.specs.sharing.Grounds.{ground_of};
 
-use crate::threads::item_text;
-use cat_base::{Refusal, WriteNo};
+use crate::threads::board::{Board, Worker};
+use crate::threads::session::Session;
+use cat_base::{Refusal, SessionNo, WriteNo};
 use cat_directory::{Directory, Shelf};
 use cat_search::cat_items::Schema;
 use cat_threads::cat_commands::cat_ledger::upkeep::MergePolicy;
-use cat_threads::running::{Caller, Gate, run_threads};
-use cat_threads::{Begun, Naming, Pass, Service, Write};
+use cat_threads::running::run_threads;
+use cat_threads::{Begun, Naming, Pass, Service};
 use std::alloc::{AllocError, Global};
+use std::marker::Brand;
 use std::sync::Wait;
+use std::sync::atomic::Ordering;
 use std::thread::Threads;
+use std::time::Clock;
 
-/// A ledger over the directory, which merges so many segments at once, of so many rows on the lowest level.
-pub(crate) fn begin<D: Directory + Shelf + Drop>(
+const FIELDS: &[u8] = br#"{"name":"text","price":"number"}"#;
+
+/// What is tried.
+#[derive(Clone, Copy)]
+pub(crate) struct Trial {
+    /// How many segments are merged at once, and how many rows those of the lowest level have.
+    pub(crate) factor: u64,
+    pub(crate) least: u64,
+    /// How many writes each session makes, and how many are accepted in all.
+    pub(crate) each: u64,
+    pub(crate) accepted: WriteNo,
+    /// Whether all four wait until all have come, and the merger's first locked section lasts until both sessions have their pages.
+    pub(crate) is_at_once: bool,
+    /// How much goes as it should.
+    pub(crate) right: u64,
+}
+
+/// A ledger over the directory.
+fn begin<D: Directory + Shelf + Drop>(
     alloc: Global,
     device: D,
     schema: Schema,
-    factor: u64,
-    least: u64,
+    trial: Trial,
 ) -> Result<Begun<D>, Refusal> {
-    let Some(policy) = MergePolicy::of(factor, least) else {
+    let Some(policy) = MergePolicy::of(trial.factor, trial.least) else {
         return Err(Refusal::Line);
     };
     match Begun::open(alloc, device, schema, policy) {
         Ok(begun) => Ok(begun),
         Err(not) => Err(not.refusal),
     }
-}
-
-/// Puts the item of this id. Answers the write's number.
-pub(crate) fn put<J: Naming, D: Directory + Shelf, R: Wait>(
-    rt: &R,
-    alloc: Global,
-    service: &Service<D, J>,
-    schema: &Schema,
-    me: &mut Pass<J>,
-    id: &str,
-) -> Result<WriteNo, Refusal>
-    ensures { me.new.session ≡ me.old.session }
-{
-    let text = item_text(alloc, id)?;
-    let item = schema.item(alloc, text.as_bytes())?;
-    service.write(rt, me, Write::Put(item))
 }
 
 /// The two sessions of the passes, each with what it does.
@@ -80,20 +87,18 @@ fn meet<J: Naming, D: Directory + Shelf, R: Wait>(
 }
 
 /// Runs both with the workers beside them, and then they tell each other what they have seen.
-pub(crate) fn side_by_side<
+fn side_by_side<
     J: Naming + Send + Sync,
     D: Directory + Shelf + Drop + Send,
-    C: Caller<D, J, R> + Send,
-    G: Gate + Send,
-    W: Gate + Send,
-    R: Threads + Wait + Sync,
+    S: Shelf + Drop + Send,
+    R: Threads + Wait + Clock + Sync,
 >(
     rt: &R,
     alloc: Global,
     service: &Service<D, J>,
     passes: Vec<Pass<J>>,
-    callers: (C, C),
-    workers: (G, W),
+    callers: (Session<'_, S>, Session<'_, S>),
+    workers: (Worker<'_, R>, Worker<'_, R>),
 ) -> Option<Vec<Pass<J>>> {
     let Ok(jobs) = both(alloc, passes, callers) else {
         return None;
@@ -106,10 +111,104 @@ pub(crate) fn side_by_side<
 }
 
 /// How many writes were accepted at the end.
-pub(crate) fn count_of<J: Naming, D: Directory + Shelf + Drop, R: Wait>(
+fn count_of<J: Naming, D: Directory + Shelf + Drop, R: Wait>(
     rt: &R,
     service: Service<D, J>,
     passes: Vec<Pass<J>>,
 ) -> WriteNo {
     service.finish(rt, passes).count()
+}
+
+/// Lets the two sessions work, with a merger and a warmer beside them. How many writes were accepted, if both came to their ends.
+fn run_two<
+    J: Naming + Send + Sync,
+    D: Directory + Shelf + Drop + Send,
+    S: Shelf + Drop + Send,
+    R: Threads + Wait + Clock + Sync,
+>(
+    rt: &R,
+    alloc: Global,
+    begun: Begun<D>,
+    sessions: [SessionNo; 2],
+    callers: (Session<'_, S>, Session<'_, S>),
+    workers: (Worker<'_, R>, Worker<'_, R>),
+) -> Option<WriteNo>
+    requires names { (begun.table ≡ J.table) × (J.from ≡ ground_of (shape_in begun.ledger)) × (J.sessions ≡ seated_by [] sessions) }
+    requires different { all_different sessions ≡ true }
+{
+    let Ok((service, passes)) = Service::<D, J>::new(alloc, begun, &sessions) else {
+        return None;
+    };
+    let passes = side_by_side(rt, alloc, &service, passes, callers, workers)?;
+    Some(count_of(rt, service, passes))
+}
+
+/// What each of the two sessions does.
+fn session_of<'a, S: Shelf + Drop>(
+    alloc: Global,
+    schema: &'a Schema,
+    board: &'a Board,
+    shelf: Option<S>,
+    each: u64,
+) -> Session<'a, S> {
+    Session {
+        alloc,
+        schema,
+        board,
+        shelf,
+        each,
+    }
+}
+
+/// The merger and the warmer.
+fn workers_of<'a, R>(
+    rt: &'a R,
+    board: &'a Board,
+    is_at_once: bool,
+) -> (Worker<'a, R>, Worker<'a, R>) {
+    let merging = Worker {
+        rt,
+        board,
+        has_come: !is_at_once,
+        was_inside: !is_at_once,
+        is_idle: false,
+    };
+    let warming = Worker {
+        rt,
+        board,
+        has_come: !is_at_once,
+        was_inside: true,
+        is_idle: false,
+    };
+    (merging, warming)
+}
+
+/// The name of what isn't as it should be, if anything is: both sessions come to their ends over the directory, all of their writes
+/// are accepted, and all that goes as it should is counted.
+pub(crate) fn failing<
+    D: Directory + Shelf + Drop + Send,
+    S: Shelf + Drop + Send,
+    R: Threads + Wait + Clock + Sync,
+>(
+    rt: &R,
+    alloc: Global,
+    device: D,
+    shelves: (Option<S>, Option<S>),
+    trial: Trial,
+) -> Result<Option<&'static str>, Refusal> {
+    let schema = Schema::read(alloc, FIELDS)?;
+    let board = Board::new();
+    let begun = begin(alloc, device, schema.copy()?, trial)?;
+    let (one, two) = shelves;
+    let first = session_of(alloc, &schema, &board, one, trial.each);
+    let callers = (first, session_of(alloc, &schema, &board, two, trial.each));
+    let workers = workers_of(rt, &board, trial.is_at_once);
+    let count = run_two::<Brand, _, _, _>(rt, alloc, begun, [1, 2], callers, workers);
+    if count != Some(trial.accepted) {
+        return Ok(Some("the writes that are accepted"));
+    }
+    if board.right.load(Ordering::SeqCst) != trial.right {
+        return Ok(Some("what goes as it should"));
+    }
+    Ok(None)
 }

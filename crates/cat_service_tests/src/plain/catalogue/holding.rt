@@ -63,7 +63,7 @@ impl Plain {
         ensures err { OnErr result ((has_hold self.old.state.holds session token ≡ false) × (self.new ≡ self.old)) }
     {
         if !self.is_holding(session, token) {
-            self.holds.push(Hold::new(session, token))?;
+            self.holds.push(Hold { session, token })?;
         }
         Ok(())
     }
