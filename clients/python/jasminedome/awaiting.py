@@ -24,7 +24,10 @@ class InOrder:
 
     def is_last(self, reply: Awaited) -> bool:
         """Whether it was added last, as far as lines go whose replies have an order."""
-        return bool(self._waiting) and self._waiting[-1] is reply
+        try:
+            return self._waiting[-1] is reply
+        except IndexError:  # the thread that reads replies may take the last one at any time
+            return False
 
     def take_back(self, reply: Awaited) -> None:
         """Lets go of the reply where it was added last: its lines don't go out."""

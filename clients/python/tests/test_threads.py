@@ -1,5 +1,6 @@
 """Eight threads at once: whatever came between, each reply is that of a plain model after just the writes of its token."""
 
+import itertools
 import json
 import random
 import sys
@@ -13,6 +14,8 @@ from test_query import FAULTS
 
 import jasminedome
 from jasminedome import Refusal, all_of, any_of, between, none_of, prefix, term, words
+from jasminedome.awaiting import InOrder
+from jasminedome.replies import Awaited
 
 THREADS = 8
 OPERATIONS = 10_000
@@ -202,6 +205,38 @@ class Worker:
         self.shop.commit("spring")
         with self.shop.snapshot() as kept:
             self.shop.note(kept.generation)
+
+
+class Turns(unittest.TestCase):
+    def test_the_last_reply_is_taken_at_any_step(self):
+        for step in itertools.count():
+            is_last, is_taken = self.asked_while_taken(step)
+            self.assertFalse(is_last)
+            if not is_taken:
+                break
+        self.assertGreater(step, 5, "the question has more steps than that")
+
+    def asked_while_taken(self, step):
+        """What is told of another reply while the one that waits is taken before the step; and whether there is such a step."""
+        order, waiting = InOrder(), Awaited(1, None)
+        order.add(waiting)
+        left = step
+
+        def trace(frame, event, _):
+            nonlocal left
+            frame.f_trace_opcodes = True
+            if event == "opcode":
+                if left == 0:
+                    order.came(waiting)
+                left -= 1
+            return trace
+
+        sys.settrace(trace)
+        try:
+            is_last = order.is_last(Awaited(1, None))
+        finally:
+            sys.settrace(None)
+        return is_last, left < 0
 
 
 class Operations(support.ShopTest):

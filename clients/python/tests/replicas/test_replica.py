@@ -234,7 +234,7 @@ class Folders(replicated.LogTest):
         position = self.log.append(puts(*range(3, 30)), Mark.ANCHOR)
         told = one.until_it("has a base", lambda told: told["bases"] == [position])
         self.log.append(puts(0))
-        one.until_it("has told", lambda _: self.log.replicas()[0].position == position + 1)
+        one.until_it("has told", lambda _: any(each.position == position + 1 for each in self.log.replicas()))
         self.assertEqual((self.log.replicas()[0].base, self.log.cut(0)), (0, 0))
         one.kill()
         self.assertEqual(one.start().wait(position)["tokens"], told["tokens"])
