@@ -1,12 +1,12 @@
 #!/usr/bin/env python3
 """Tries the must-fail edits of tests/edits, and of crates/*/must-fail: wrong bodies, each of which its own crate's contracts have to refuse.
 
-usage: tests/edits.py [--anew] [--as-they-stand] [--lanes N] [--only LETTERS] [CRATE..]
+usage: tests/edits.py [--anew] [--as-they-stand] [--beside FILE] [--lanes N] [--only LETTERS] [CRATE..]
 
 All edits of a crate go into one copy of it, and one check proves the functions that they change; of two edits of one function
-the second changes a copy of it, which has its contract and its proof under another name. A caller's proof rests on nothing of a
-callee but its contract, so every other function of the copy is left with that alone: its body is taken out, and a hole stands
-for its proof. An edit is refused where its function is not proved, and for what it does: a goal of its own function is left open,
+the second changes a copy of it, which has its contract and its proof under another name, and its cycle with it where it is in
+one. A caller's proof rests on nothing of a callee but its contract, so every other function of the copy is left with that alone:
+its body is taken out, and a hole stands for its proof. An edit is refused where its function is not proved, and for what it does: a goal of its own function is left open,
 or an answer to one no longer proves it. Where nothing but names that are gone tells against it, it shows nothing of the contract,
 and counts as not refused. The goals in an edit's line '# leave: GOAL..' are left out: others refuse it sooner. What isn't refused
 beside such functions is tried again in a copy that has each with its body and its proof, and what comes of that stands. An edit
@@ -15,6 +15,9 @@ with a line '# compiler: TEXT' is one that must not compile: the compiler has to
 A crate is tried over the libraries below it as `rt ci` built and kept them on this machine, or else over those that `rt lib`
 builds. What an edit came to is kept beside the kit by the checksums of all that it stands on, and not tried again before one
 of these changes; --anew tries all. The last line is `N refused, M not`, and the status 0 where M is.
+
+With --beside FILE it goes along with an `rt ci` that runs for as long as the file is there: a crate's edits are tried once the
+libraries below it are kept, by processors that `rt ci` leaves idle.
 
 With --as-they-stand the edits are left out, and nothing is kept: the same checks have to prove each function, so that what
 refuses an edit is the edit. The last line is then `N proved as they stand, M not`.
@@ -26,18 +29,20 @@ import json
 import os
 import re
 import shutil
+import signal
 import subprocess
 import sys
 import tempfile
 import threading
 import time
-from concurrent.futures import ThreadPoolExecutor
+from collections import Counter
+from concurrent.futures import FIRST_COMPLETED, ThreadPoolExecutor, wait
 from pathlib import Path
 
 sys.path.insert(0, str(Path(__file__).resolve().parent))
 
 import kit  # noqa: E402
-from functions import can_be_copied, copy_function, leave_contracts, leave_goals, unit_at, unit_named, units_of  # noqa: E402
+from functions import can_be_copied, copy_function, goals_answered, leave_contracts, leave_goals, unit_at, unit_named, units_of  # noqa: E402
 from sources import TOP, Sources  # noqa: E402
 
 EDITS = TOP / "tests" / "edits"
@@ -55,6 +60,9 @@ OPEN = re.compile(r"it is not proved that")
 FALSE = "the facts known there allow values at which this goal is false"
 # What the prover says of a function that it accepts: the last two where it is told to check past the holes of others.
 ACCEPTED = ("proved", "no holes", "depends on a hole in ")
+# Bytes of memory that have to be free for a check that begins while `rt ci` runs: that counts on what was free when it began.
+ROOM_BESIDE = 6_000_000_000
+TURN = 5  # seconds between two looks at what `rt ci` has kept
 
 
 class Edit:
@@ -129,6 +137,10 @@ class Edit:
             if not unit:
                 return None, f"no function {name} stands in src/"
             units[name] = unit
+        # A goal that is left out beside its answer would be declared twice, and that alone would refuse any edit.
+        for unit in units.values():
+            for goal in goals_answered(room, unit, self.goals_left):
+                return None, f"a line '# leave:' names {goal}, which has an answer"
         for path, text in texts.items():
             (room / path).write_text(text, encoding="utf-8")
         if self.only:
@@ -164,6 +176,45 @@ class Edit:
 def files_of(crate):
     """The files of the crate's edits: those of tests/edits, and those that `rt ci` tries too."""
     return sorted([*(EDITS / crate).glob("*.edit"), *(TOP / "crates" / crate / "must-fail").glob("*.edit")], key=lambda it: it.name)
+
+
+class Checks:
+    """Runs the checks, and ends with all of them where it is told to end. `beside` is there for as long as `rt ci` runs."""
+
+    def __init__(self, beside):
+        self.beside, self.running, self.is_over, self.turn = beside, set(), False, threading.Lock()
+        # How many checks each crate took, and seconds of a processor.
+        self.counts, self.seconds = Counter(), Counter()
+
+    def is_beside(self):
+        return self.beside is not None and self.beside.exists()
+
+    def run(self, crate, words, room):
+        """What a check of the crate came to."""
+        while self.is_beside() and kit.memory() < ROOM_BESIDE and not self.is_over:
+            time.sleep(1)
+        if self.is_beside():
+            words = ["nice", "-n", "19", *words]
+        with self.turn:
+            if self.is_over:
+                raise KeyboardInterrupt
+            child = subprocess.Popen(words, cwd=room, stdin=subprocess.DEVNULL, stdout=subprocess.PIPE, stderr=subprocess.STDOUT, text=True, errors="replace")
+            self.running.add(child)
+        with child.stdout as said:
+            text = said.read()
+        _, status, used = os.wait4(child.pid, 0)
+        child.returncode = os.waitstatus_to_exitcode(status)
+        with self.turn:
+            self.running.discard(child)
+            self.counts[crate] += 1
+            self.seconds[crate] += used.ru_utime + used.ru_stime
+        return subprocess.CompletedProcess(words, child.returncode, text)
+
+    def end(self):
+        with self.turn:
+            self.is_over = True
+            for child in self.running:
+                child.kill()
 
 
 class Batch:
@@ -233,7 +284,7 @@ def applied(edits, room, as_they_stand):
     return units
 
 
-def check(batch, edits, words, kept, as_they_stand=False):
+def check(batch, edits, words, kept, checks, as_they_stand=False):
     """Checks the crate with these edits of the batch, and gives what each came to; one that doesn't go with the others stands in no answer.
 
     Where the words let holes pass, each function that no edit changes is left with its contract alone. The folder `kept` has
@@ -251,7 +302,7 @@ def check(batch, edits, words, kept, as_they_stand=False):
                 leave_goals(batch.crate, room, units[edit][0], edit.goals_left)
         # What an edit adds or takes away is one line for one line, so the places of functions stay.
         asked = [word for name in sorted({it.path for it in changed}) for word in ("--only", name)]
-        ran = subprocess.run([*words, *asked, "--incremental", kept], cwd=room, stdin=subprocess.DEVNULL, stdout=subprocess.PIPE, stderr=subprocess.STDOUT, errors="replace")
+        ran = checks.run(batch.crate, [*words, *asked, "--incremental", kept], room)
         if LOGS:
             named = f"{batch.crate}-{batch.number if len(edits) > 1 else edits[0].name}{'-whole' if is_whole else ''}"
             Path(LOGS, f"{named}.log").write_text(f"{' '.join(asked)}\n{ran.stdout}", encoding="utf-8")
@@ -356,7 +407,7 @@ class Results:
             pass
 
 
-def tried(batch, libraries, kept, as_they_stand):
+def tried(batch, libraries, kept, checks, as_they_stand):
     """What each edit of the batch comes to.
 
     Beside functions with nothing but their contracts a check may only refuse: what else it says, a check of the whole has to
@@ -367,17 +418,17 @@ def tried(batch, libraries, kept, as_they_stand):
     found, left = {}, batch.edits
     # Of a text that must not compile the prover sees nothing, and the compiler has to see it all.
     if as_they_stand or not any(it.compiler for it in left):
-        found = check(batch, left, [*words, "--allow-holes"], kept, as_they_stand)
+        found = check(batch, left, [*words, "--allow-holes"], kept, checks, as_they_stand)
         # One that doesn't compile keeps the others from the prover.
         for edit in left if len(left) > 1 else []:
             if edit not in found or found[edit][0] in (BAD, UNTRIED):
-                found.update(check(batch, [edit], [*words, "--allow-holes"], kept, as_they_stand))
+                found.update(check(batch, [edit], [*words, "--allow-holes"], kept, checks, as_they_stand))
         left = [] if as_they_stand else [it for it in left if it not in found or found[it][0] != REFUSED]
     if left:
-        found.update(check(batch, left, words, kept))
+        found.update(check(batch, left, words, kept, checks))
     for edit in left:
         if edit not in found or found[edit][0] in (BAD, UNTRIED) and len(left) > 1:
-            found.update(check(batch, [edit], words, kept))
+            found.update(check(batch, [edit], words, kept, checks))
     return found
 
 
@@ -385,6 +436,7 @@ def asked_for():
     parser = argparse.ArgumentParser("edits.py", description="Tries the must-fail edits of tests/edits.")
     parser.add_argument("--anew", action="store_true", help="try those too whose result is kept")
     parser.add_argument("--as-they-stand", action="store_true", help="leave the edits out: each function has to be proved")
+    parser.add_argument("--beside", type=Path, metavar="FILE", help="go along with an rt ci that runs for as long as FILE is there")
     parser.add_argument("--lanes", type=int, help="how many checks go side by side")
     parser.add_argument("--only", help="edits whose names have these letters")
     parser.add_argument("crates", nargs="*", metavar="CRATE")
@@ -392,25 +444,44 @@ def asked_for():
 
 
 def try_all(batches, sources, asked, tell):
-    """Tries the batches of all crates, the crates side by side, and tells what each edit comes to."""
-    libraries, telling = kit.Libraries(sources, sorted(batches)), threading.Lock()
+    """Tries the batches of all crates, the crates side by side, tells what each edit comes to, and gives the checks that it took."""
+    libraries, checks, telling = kit.Libraries(sources), Checks(asked.beside), threading.Lock()
 
     def work(crate):
         with tempfile.TemporaryDirectory(prefix="edits-kept-") as kept:
             for batch in batches[crate]:
-                found = tried(batch, libraries, kept, asked.as_they_stand)
+                found = tried(batch, libraries, kept, checks, asked.as_they_stand)
                 with telling:
                     for edit, (kind, text) in found.items():
                         tell(edit, kind, text)
 
-    with ThreadPoolExecutor(max(1, asked.lanes or kit.lanes())) as pool:
-        # The longest checks first.
-        for it in [pool.submit(work, crate) for crate in sorted(batches, key=lambda it: -sources.size_below(it))]:
-            it.result()
-    libraries.close()
+    # The longest checks first, of those whose libraries are there.
+    left, running, lanes = sorted(batches, key=lambda it: -sources.size_below(it)), set(), max(1, asked.lanes or kit.lanes())
+    with ThreadPoolExecutor(lanes) as pool:
+        try:
+            is_whole = False
+            while left or running:
+                if not is_whole:
+                    is_whole = not checks.is_beside()
+                    (libraries.take_all if is_whole else libraries.take_kept)(left)
+                ready = [it for it in left if is_whole or it in libraries.at]
+                for crate in ready[: lanes - len(running)]:
+                    left.remove(crate)
+                    running.add(pool.submit(work, crate))
+                if not running:
+                    time.sleep(TURN)
+                done, running = wait(running, TURN, FIRST_COMPLETED)
+                for it in done:
+                    it.result()
+        finally:
+            checks.end()
+            libraries.close()
+    return checks
 
 
 def main():
+    # Who is told to end ends the checks too.
+    signal.signal(signal.SIGTERM, lambda *_: sys.exit(128 + signal.SIGTERM))
     asked, sources = asked_for(), Sources()
     crates = asked.crates or sorted({*(it.name for it in EDITS.iterdir()), *(it for it in sources.uses if files_of(it))})
     for it in crates:
@@ -436,13 +507,15 @@ def main():
         results.keep(edit, kind, text)
         print(f"edits: {edit.label}: {kind}: {text}", flush=True)
 
-    try_all(batches, sources, asked, tell)
+    checks = try_all(batches, sources, asked, tell)
+    for crate, seconds in checks.seconds.most_common():
+        print(f"edits: {crate}: {sum(len(it.edits) for it in batches[crate])} edits took {checks.counts[crate]} checks and {seconds:.0f} s of a processor")
     wanted, word = (MISSED, "proved as they stand") if asked.as_they_stand else (REFUSED, "refused")
     for edit in edits:
         if told[edit][0] != wanted:
             print(f"edits: {edit.label}: {told[edit][0]}: {told[edit][1]}")
     well = sum(told[it][0] == wanted for it in edits)
-    print(f"edits: {len(edits) - old} of {len(edits)} were tried in this run, in {sum(map(len, batches.values()))} checks and {time.monotonic() - start:.0f} s; the others are kept")
+    print(f"edits: {len(edits) - old} of {len(edits)} were tried in this run, in {sum(checks.counts.values())} checks and {time.monotonic() - start:.0f} s; the others are kept")
     print(f"{well} {word}, {len(edits) - well} not")
     return 1 if well < len(edits) or not edits else 0
 

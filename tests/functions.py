@@ -189,17 +189,33 @@ def unit_named(room, name):
 
 
 def can_be_copied(crate, room, unit):
-    """Whether the function can stand in its file once more under another name: a trait's has its name from there, and of a cycle's there
-    are more; and a proof that others name, or that has files of more than its answers, isn't its own alone."""
+    """Whether the function can stand in its file once more under another name, and its cycle with it: a trait's has its name from there, and a
+    proof that others name, or that has files of more than its answers, isn't its own alone."""
     proofs = room / "proofs"
-    own = proofs.joinpath(*unit.path.split("::"))
-    if unit.cycle or unit.is_of_trait or unit.is_for_trait or any(proofs.joinpath(*it.split("::")).exists() for it in (unit.closures, unit.own_cycle)):
+    if unit.is_of_trait or unit.is_for_trait or any(proofs.joinpath(*it.split("::")).exists() for it in (unit.closures, unit.own_cycle)):
         return False
+    if unit.cycle and any(it.file != unit.file or it.header for it in cycle_with(room, unit)):
+        return False
+    own = proofs.joinpath(*proof_path(unit).split("::"))
     if own.is_dir() and any(it.name not in ANSWERS for it in own.iterdir()):
         return False
-    named = path_in_proofs(crate, unit.path)
-    others = (it for part in ("specs", "proofs", "src") for it in sorted((room / part).glob("**/*.*t")))
-    return not any(named.search(it.read_text(encoding="utf-8")) for it in others if it.parent != own)
+    paths = {proof_path(unit), *(it.path for it in cycle_with(room, unit))}
+    others = [it.read_text(encoding="utf-8") for part in ("specs", "proofs", "src") for it in sorted((room / part).glob("**/*.*t")) if it.parent != own]
+    return not any(path_in_proofs(crate, path).search(it) for path in paths for it in others)
+
+
+def proof_path(unit):
+    """Where the function's proof stands below proofs/, or that of its cycle."""
+    above = unit.path.rpartition("::")[0]
+    return f"{above}::+{unit.cycle}".removeprefix("::") if unit.cycle else unit.path
+
+
+def cycle_with(room, unit):
+    """The functions of the function's cycle, or itself where it is in none."""
+    if not unit.cycle:
+        return [unit]
+    files = ((it.relative_to(room).as_posix(), it.read_text(encoding="utf-8")) for it in sorted(room.glob("src/**/*.rt")))
+    return [it for path, text in files for it in units_of(room, path, text) if it.cycle == unit.cycle]
 
 
 def path_in_proofs(crate, path):
@@ -208,33 +224,44 @@ def path_in_proofs(crate, path):
 
 
 def copy_function(crate, room, unit, name, change):
-    """Writes the function once more at the end of its file, under this name and with its lines changed by `change`, and its proof with it.
+    """Writes the function once more at the end of its file, under this name and with its lines changed by `change`, and its proof with it;
+    where it is in a cycle, all that is.
 
-    It has the contract that the function has, and no one calls it."""
+    It has the contract that the function has, and no one else calls it."""
     file = room / unit.file
     whole = (TOP / "crates" / crate / unit.file).read_text(encoding="utf-8").split("\n")
-    lines = whole[unit.head : unit.body[1] + 1]
     old = unit.path.rpartition("::")[2]
-    lines = change("\n".join(lines)).split("\n")
-    lines[0] = re.sub(rf"\bfn {old}\b", f"fn {name}", lines[0], count=1)
+    suffix = name[len(old) :]
+    members = cycle_with(room, unit)
     text = file.read_text(encoding="utf-8").rstrip("\n").split("\n")
-    text += ["", f"{unit.header.rstrip()} {{"] if unit.header else [""]
-    head = sum(it.count("\n") + 1 for it in text)
-    text += [*lines, *(["}"] if unit.header else []), ""]
-    file.write_text("\n".join(text), encoding="utf-8")
-    path = f"{unit.path.rpartition('::')[0]}::{name}".removeprefix("::")
-    proof = room.joinpath("proofs", *unit.path.split("::"))
+    for it in members:
+        lines = "\n".join(whole[it.head : it.body[1] + 1])
+        lines = (change(lines) if it.path == unit.path else lines).split("\n")
+        if unit.cycle:
+            lines = [f"#[cycle({unit.cycle}{suffix})]", *(in_copy(members, suffix, row) for row in lines)]
+        else:
+            lines[0] = re.sub(rf"\bfn {old}\b", f"fn {name}", lines[0], count=1)
+        text += ["", *([f"{unit.header.rstrip()} {{"] if unit.header else []), *lines, *(["}"] if unit.header else [])]
+    file.write_text("\n".join([*text, ""]), encoding="utf-8")
+    path, of = f"{unit.path.rpartition('::')[0]}::{name}".removeprefix("::"), proof_path(unit)
+    proof = room.joinpath("proofs", *of.split("::"))
     if proof.is_dir():
-        copy = proof.with_name(name)
+        copy = proof.with_name(f"{proof.name}{suffix}")
         copy.mkdir()
         for it in proof.iterdir():
-            named = path_in_proofs(crate, unit.path).sub(rf"\g<1>{path.replace('::', '.')}", it.read_text(encoding="utf-8"))
-            (copy / it.name).write_text(named, encoding="utf-8")
+            named = path_in_proofs(crate, of).sub(rf"\g<1>{of.replace('::', '.')}{suffix}", it.read_text(encoding="utf-8"))
+            (copy / it.name).write_text(in_copy(members, suffix, named) if unit.cycle else named, encoding="utf-8")
     return unit_named(room, path)
 
 
+def in_copy(members, suffix, text):
+    """The text with the names of these functions, which goals and steps have too, as they are in the copy of their cycle."""
+    names = "|".join(re.escape(it.path.rpartition("::")[2]) for it in members)
+    return re.sub(rf"(?<!\w)({names})(?!\w)", rf"\g<1>{suffix}", text)
+
+
 def leave_contracts(crate, room, units):
-    """Leaves each function of the copy with its contract alone, but these and what can't be left so.
+    """Leaves each function of the copy with its contract alone, but these, those of their cycles, and what can't be left so.
 
     A function's proof rests on the contracts of those that it calls, and on nothing else of them, so it is accepted or refused
     as it would be beside their own bodies and proofs. The lines of the others stay where they are."""
@@ -244,8 +271,8 @@ def leave_contracts(crate, room, units):
         text = file.read_text(encoding="utf-8")
         lines, end = text.split("\n"), -1
         for unit in units_of(room, path, text):
-            # One proof says of a cycle that it ends, a method of a trait is proved for each type, and one inside a body goes with that.
-            if unit.head > end and not (unit.key in keys or unit.cycle or unit.is_of_trait):
+            # A method of a trait is proved for each type, and one inside a body goes with that.
+            if unit.head > end and not (unit.key in keys or unit.is_of_trait):
                 leave_contract(crate, room, unit, lines)
             end = max(end, unit.body[1])
         file.write_text("\n".join(lines), encoding="utf-8")
@@ -259,6 +286,8 @@ def leave_contract(crate, room, unit, lines):
     proofs = room / "proofs"
     for path in (unit.closures, unit.own_cycle):
         shutil.rmtree(proofs.joinpath(*path.split("::")), ignore_errors=True)
+    if unit.cycle:
+        leave_cycle(proofs, unit, lines)
     # Below the folder of a function stands what is of a module with its name.
     own = proofs.joinpath(*unit.path.split("::"))
     own.mkdir(parents=True, exist_ok=True)
@@ -266,6 +295,25 @@ def leave_contract(crate, room, unit, lines):
         (own / name).unlink(missing_ok=True)
     hole = NO_PROOF.format(crate=crate, path=unit.path.replace("::", "."), name=unit.path.rpartition("::")[2])
     (own / "Proof.antt").write_text(hole, encoding="utf-8")
+
+
+def leave_cycle(proofs, unit, lines):
+    """Takes the function out of its cycle: where no function of it has a body, none calls another. One that an edit changes keeps its whole cycle."""
+    for row in range(unit.head - 1, -1, -1):
+        if not lines[row].strip().startswith(("#[", "//")):
+            break
+        if lines[row].strip() == f"#[cycle({unit.cycle})]":
+            lines[row] = ""
+            break
+    for proof in proofs.glob(f"**/+{unit.cycle}"):
+        shutil.rmtree(proof)
+
+
+def goals_answered(room, unit, goals):
+    """Those of the goals that the function's own file of answers answers."""
+    own = room.joinpath("proofs", *unit.path.split("::"), "Answers.antt")
+    text = own.read_text(encoding="utf-8") if own.is_file() else ""
+    return [it for it in goals if re.search(rf"(?m)^(?:pub )?{re.escape(it)} :", text)]
 
 
 def leave_goals(crate, room, unit, goals):

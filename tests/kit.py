@@ -1,4 +1,8 @@
-"""The Rattle kit on this machine: where it is, what it calls itself, and what of this repository it has built."""
+"""The Rattle kit on this machine: where it is, what it calls itself, and what of this repository it has built.
+
+usage: python3 tests/kit.py
+The status is 0 where `rt ci` has room to keep what it proves.
+"""
 
 import hashlib
 import importlib.machinery
@@ -54,46 +58,44 @@ def lanes():
 class Libraries:
     """The libraries below some crates, as the prover built them of the files that stand there now."""
 
-    def __init__(self, sources, crates):
+    def __init__(self, sources):
         # For each crate, where it finds itself and those below it: they fit together only as they were built.
-        self.sources, self.room, self.at = sources, None, {}
+        self.sources, self.room, self.at, self.gate = sources, None, {}, None
+
+    def take_all(self, crates):
+        """Finds those of each crate: those that `rt ci` kept or left, and else those that are built now."""
         self.take_kept(crates)
-        if len(self.at) < len(crates):
-            self.take_left([it for it in crates if it not in self.at])
+        self.take_left([it for it in crates if it not in self.at])
         for crate in crates:
             if crate not in self.at:
                 self.build(crate)
 
     def take_kept(self, crates):
-        """Takes what `rt ci` proved of the same files over the same libraries, by the sums under which it keeps that."""
-        names = self.sources.below(*crates)
+        """Takes what `rt ci` proved of the same files over the same libraries, by the sums under which it keeps that.
+
+        A crate's own proof need not be there yet: `rt ci` may be at it."""
         try:
-            found = kept_by_gate(self.sources, names)
+            self.gate = self.gate or KeptByGate(self.sources)
+            found = self.gate.look(self.sources.below(*crates))
         except Exception as error:  # a kit that keeps it otherwise
             print(f"kit: what rt ci kept can't be read ({type(error).__name__}: {error}), so libraries are built", file=sys.stderr)
             return
-        whole = [it for it in crates if all(name in found for name in self.sources.below(it))]
-        wanted = self.sources.below(*whole)
-        self.room = tempfile.mkdtemp(prefix="libraries-") if wanted else None
-        for name in wanted:
-            if self.sources.is_program(name):
+        for crate in crates:
+            names = self.sources.below(crate)
+            if crate in self.at or not all(it in found for it in names[:-1]):
                 continue
-            entry, files = found[name]
-            for number, path in enumerate(files):
-                to = Path(self.room) / path
-                to.parent.mkdir(parents=True, exist_ok=True)
-                try:
-                    os.link(entry / str(number), to)
-                except OSError:
-                    shutil.copyfile(entry / str(number), to)
-        for crate in whole:
-            self.at[crate] = {name: Path(self.room) / "rlib" / f"{name}.rlib" for name in self.sources.below(crate)}
+            self.room = self.room or tempfile.mkdtemp(prefix="libraries-")
+            for name in names[:-1]:
+                link_files(*found[name], Path(self.room))
+            self.at[crate] = {name: Path(self.room) / "rlib" / f"{name}.rlib" for name in names}
 
     def in_out(self, crate):
         return {name: TOP / "crates" / name / "out" / "rlib" / f"{name}.rlib" for name in self.sources.below(crate)}
 
     def take_left(self, crates):
         """Takes what `rt ci` left in out/, where it could keep nothing: ./prove notes of which sources that is."""
+        if not crates:
+            return
         words = ["bash", "-c", 'top=$1 && . "$top/release/common.sh" && [ "$(told "$record" sources)" = "$(sources_sum)" ]', "", str(TOP)]
         if subprocess.run(words, stderr=subprocess.DEVNULL).returncode:
             return
@@ -143,22 +145,58 @@ def rt():
     return made
 
 
-def kept_by_gate(sources, names):
-    """For each of these crates that `rt ci` proved as it stands: where its files are kept, and their paths below out/."""
-    kits = rt()
-    kits.Crate.allowed = kits.handles_of(str(TOP))
-    kits.rtlib.Crate = kits.Crate
-    crates = {it.name: it for it in kits.rtlib.crates_below(str(TOP))}
-    kept, found = kits.Kept([]), {}
-    for name in sources.below(*names):
-        entry = Path(kept.place(crates[name], False, kept.key(crates[name])))
+def keeps():
+    """Whether `rt ci` has room to keep what it proves."""
+    kept = rt().Kept([])
+    return bool(kept.at) and kept.has_room()
+
+
+class KeptByGate:
+    """What `rt ci` proved on this machine of the crates as they stand."""
+
+    def __init__(self, sources):
+        kits = rt()
+        kits.Crate.allowed = kits.handles_of(str(TOP))
+        kits.rtlib.Crate = kits.Crate
+        self.sources, self.kept, self.found = sources, kits.Kept([]), {}
+        self.crates = {it.name: it for it in kits.rtlib.crates_below(str(TOP))}
+        # Where each is kept, once those below it are.
+        self.entries = {}
+
+    def look(self, names):
+        """For each of these crates that is kept: where its files are, and their paths below out/. Each comes behind those that it uses."""
+        for name in names:
+            if name not in self.found and all(it in self.found for it in self.sources.below(name)[:-1]):
+                self.look_at(name)
+        return self.found
+
+    def look_at(self, name):
+        if name not in self.entries:
+            self.entries[name] = Path(self.kept.place(self.crates[name], False, self.kept.key(self.crates[name])))
+        entry = self.entries[name]
         if not (entry / "made.json").is_file():
-            continue
+            return
         made = json.loads((entry / "made.json").read_text(encoding="utf-8"))
         files = [(path, total) for path, total in made["files"]]
         for number, (path, total) in enumerate(files):
             if hashlib.sha256((entry / str(number)).read_bytes()).hexdigest() != total:
                 raise ValueError(f"{entry} is damaged")
-        kept.rlibs[name] = hashlib.sha256(repr([] if sources.is_program(name) else files).encode()).hexdigest()
-        found[name] = entry, [path for path, _ in files]
-    return found
+        self.kept.rlibs[name] = hashlib.sha256(repr([] if self.sources.is_program(name) else files).encode()).hexdigest()
+        self.found[name] = entry, [path for path, _ in files]
+
+
+def link_files(entry, paths, room):
+    """Puts the files of what is kept under their own paths into the room, where they aren't there yet."""
+    for number, path in enumerate(paths):
+        to = room / path
+        if to.exists():
+            continue
+        to.parent.mkdir(parents=True, exist_ok=True)
+        try:
+            os.link(entry / str(number), to)
+        except OSError:
+            shutil.copyfile(entry / str(number), to)
+
+
+if __name__ == "__main__":
+    sys.exit(0 if keeps() else 1)
