@@ -3,6 +3,7 @@ ghost use Rattle.std.specs.Prelude.{◌≡◌};
 ghost use Rattle.cat_base.specs.Refusals.{number_of};
 
 use std::alloc::{AllocError, AllocFailed};
+use std::fmt;
 use thiserror::Error;
 
 /// Why a call was refused. Shown, it is its number in the line protocol and a sentence.
@@ -11,66 +12,46 @@ use thiserror::Error;
 #[derive(Clone, Copy, Debug, Drop, PartialEq, Eq, Error)]
 pub enum Refusal {
     /// 10: the line has no form of the protocol, or its command is not served.
-    #[error("10: the line is no command of the protocol")]
     Line,
     /// 11: the text of an item or of a schema is no JSON.
-    #[error("11: the text is not JSON")]
     Json,
     /// 12: an item has a member that is neither `id` nor a field of the schema.
-    #[error("12: a member of the item is not a field of the schema")]
     Member,
     /// 13: a value of an item has not its field's kind, an item has not the catalogue's fields, or a schema is wrong or
     /// is not the one that the commit was made under.
-    #[error("13: a value has the wrong kind")]
     Kind,
     /// 14: an id is missing or has the wrong form.
-    #[error("14: the id is missing or has the wrong form")]
     Id,
     /// 15: an item, a keyword, a label or a list of labels is longer than its limit.
-    #[error("15: an item, keyword, label or list of labels is too large")]
     Large,
     /// 16: the next number of a write, a segment or a commit would pass [`LAST_NUMBER`](crate::LAST_NUMBER), or as many
     /// segments or snapshots stand as may.
-    #[error("16: the last number is used up, or a limit is reached")]
     Spent,
     /// 20: the session does not hold the view that the token names.
-    #[error("20: the session does not hold this token")]
     NotHeld,
     /// 21: no view is recorded under the token; it may have been pruned.
-    #[error("21: no view is recorded under this token")]
     Gone,
     /// 22: as many views are recorded as may be, and sessions hold all of them.
-    #[error("22: all recorded views are held, and there is no room for another")]
     Full,
     /// 23: the mark is not the number of a record of the held view.
-    #[error("23: the mark is not a record of the held view")]
     Mark,
     /// 24: the text is no query. The number is the place of the fault, in bytes from the query's beginning.
-    #[error("24: the query cannot be read at byte {0}")]
     Query(usize),
     /// 25: more entries were asked for than [`MAX_PAGE`](crate::MAX_PAGE).
-    #[error("25: more than 1000 entries were asked for")]
     Count,
     /// 26: there is no commit, or none is kept under the generation.
-    #[error("26: there is no such commit")]
     NoCommit,
     /// 27: the commit has no snapshot.
-    #[error("27: the commit has no snapshot")]
     NoSnapshot,
     /// 28: the field to sort by is not a number or keyword field of the schema.
-    #[error("28: the sort needs a number or keyword field")]
     SortField,
     /// 29: the dimension to count is not a facet field of the schema.
-    #[error("29: the dimension is not a facet field")]
     NotFacet,
     /// 30: a call of the directory or shelf failed. What it left is said where the refusal comes.
-    #[error("30: the storage device failed")]
     Device,
     /// 31: a file, or the bytes given for one, is absent, cut short, or not what is written there.
-    #[error("31: a file is damaged or missing")]
     Damaged,
     /// 40: memory was asked for and refused.
-    #[error("40: out of memory")]
     Memory,
 }
 
@@ -100,6 +81,42 @@ impl Refusal {
             Refusal::Device => 30,
             Refusal::Damaged => 31,
             Refusal::Memory => 40,
+        }
+    }
+
+    /// What is shown of the cause: its number and a sentence.
+    fn sentence(&self) -> &'static str {
+        match self {
+            Refusal::Line => "10: the line is no command of the protocol",
+            Refusal::Json => "11: the text is not JSON",
+            Refusal::Member => "12: a member of the item is not a field of the schema",
+            Refusal::Kind => "13: a value has the wrong kind",
+            Refusal::Id => "14: the id is missing or has the wrong form",
+            Refusal::Large => "15: an item, keyword, label or list of labels is too large",
+            Refusal::Spent => "16: the last number is used up, or a limit is reached",
+            Refusal::NotHeld => "20: the session does not hold this token",
+            Refusal::Gone => "21: no view is recorded under this token",
+            Refusal::Full => "22: all recorded views are held, and there is no room for another",
+            Refusal::Mark => "23: the mark is not a record of the held view",
+            Refusal::Query(_) => "24: the query cannot be read at byte",
+            Refusal::Count => "25: more than 1000 entries were asked for",
+            Refusal::NoCommit => "26: there is no such commit",
+            Refusal::NoSnapshot => "27: the commit has no snapshot",
+            Refusal::SortField => "28: the sort needs a number or keyword field",
+            Refusal::NotFacet => "29: the dimension is not a facet field",
+            Refusal::Device => "30: the storage device failed",
+            Refusal::Damaged => "31: a file is damaged or missing",
+            Refusal::Memory => "40: out of memory",
+        }
+    }
+}
+
+impl fmt::Display for Refusal {
+    // Written by hand over a table of sentences, since a format of each cause's own takes four times as long to prove.
+    fn fmt<W: fmt::Write>(&self, f: &mut fmt::Formatter<W>) -> fmt::Result {
+        match self {
+            Refusal::Query(place) => write!(f, "{} {place}", self.sentence()),
+            _ => f.write_str(self.sentence()),
         }
     }
 }
