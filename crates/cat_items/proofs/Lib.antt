@@ -11,4 +11,5 @@ pub mod Formed
 pub mod TalkTexts
 pub mod Accepted
 pub mod SameFields
+pub mod Taken
 pub mod JsonTexts

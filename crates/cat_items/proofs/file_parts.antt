@@ -3,6 +3,7 @@ pub mod Layouts
 pub mod Loop
 pub mod Numbers
 pub mod Pieces
+pub mod Puts
 pub mod Readers
 pub mod Segments
 pub mod Rests

@@ -69,7 +69,9 @@ fn values_of(alloc: Global, fields: &[Field], root: &Value) -> Result<Vec<FieldV
 {
     let mut values = Vec::with_capacity(alloc, fields.len())?;
     for field in fields {
-        values.push(value_of(alloc, field.kind(), root.get(field.name()))?)?;
+        let member = root.get(field.name());
+        let value = value_of(alloc, field.kind(), member)?;
+        values.push(value)?;
     }
     Ok(values)
 }

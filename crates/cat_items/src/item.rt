@@ -8,7 +8,7 @@ ghost use Rattle.cat_items.specs.Kinds.{field_kind_of};
 
 use crate::schema::{Field, Kind, index_of};
 use cat_base::{Text, TextSet};
-use std::alloc::AllocError;
+use std::alloc::{AllocError, Global};
 use std::marker::Model;
 use std::sync::Arc;
 
@@ -75,6 +75,18 @@ fn is_had(field: &Field, own: &Field, value: &FieldValue) -> bool
     ensures { IsTrue result ↔ IsHad field.now own.now value.now }
 {
     own.name() == field.name() && value.is_of(field.kind())
+}
+
+// The same values once more.
+fn copied(alloc: Global, values: &[FieldValue]) -> Result<Vec<FieldValue>, AllocError>
+    ensures { IfOk result (λ v. v.items ≡ values.now) }
+{
+    let mut out = Vec::with_capacity(alloc, values.len())?;
+    for value in values {
+        let one = value.copy()?;
+        out.push(one)?;
+    }
+    Ok(out)
 }
 
 /// An item as it was put: its id, what it has in each field, and the text that it was read from. Lucene's `Document`,
@@ -197,10 +209,7 @@ impl Item {
         ensures { IfOk result (λ i. i ≡ self.now) }
     {
         let alloc = *self.values.allocator();
-        let mut values = Vec::with_capacity(alloc, self.values.len())?;
-        for value in &self.values {
-            values.push(value.copy()?)?;
-        }
+        let values = copied(alloc, self.values.as_slice())?;
         let id = self.id.copy()?;
         let source = Vec::from_slice(alloc, self.source.as_slice())?;
         let fields = Arc::try_clone(&self.fields)?;

@@ -62,7 +62,10 @@ fn read_cells(
 fn end_of(list: &[u32]) -> Result<u32, AllocError>
     ensures { IfOk result (λ n. n ≡ length list.now) }
 {
-    u32::try_from(list.len()).map_err(|_| AllocError)
+    match u32::try_from(list.len()) {
+        Ok(end) => Ok(end),
+        Err(_) => Err(AllocError),
+    }
 }
 
 fn read_postings(alloc: Global, count: u32, cursor: &mut Cursor<'_>) -> Result<Postings, Refusal>

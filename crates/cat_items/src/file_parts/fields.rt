@@ -128,16 +128,27 @@ pub(crate) fn take_heads<'a>(cursor: &mut Cursor<'a>) -> Result<FieldHeads<'a>, 
     Ok(heads)
 }
 
+fn fields_of(alloc: Global, heads: &[FieldHead<'_>]) -> Result<Vec<Field>, AllocError>
+    ensures { IfOk result (λ v. v.items ≡ heads.now) }
+{
+    let mut out = Vec::with_capacity(alloc, heads.len())?;
+    for head in heads {
+        let name = Text::from_str(alloc, head.name())?;
+        out.push(Field::new(name, head.kind()))?;
+    }
+    Ok(out)
+}
+
 fn schema_of(alloc: Global, heads: &[FieldHead<'_>]) -> Result<Schema, AllocError>
     requires { model.IsSchema heads.now }
     ensures { IfOk result (λ s. s ≡ heads.now) }
 {
-    let mut fields = Vec::with_capacity(alloc, heads.len())?;
-    for head in heads {
-        fields.push(Field::new(Text::from_str(alloc, head.name())?, head.kind()))?;
-    }
+    let fields = fields_of(alloc, heads)?;
     // Of the fields of a schema it is made, so that memory alone can fail.
-    Schema::of_fields(alloc, fields).map_err(|_| AllocError)
+    match Schema::of_fields(alloc, fields) {
+        Ok(schema) => Ok(schema),
+        Err(_) => Err(AllocError),
+    }
 }
 
 pub(crate) fn take_fields(alloc: Global, cursor: &mut Cursor<'_>) -> Result<Schema, Refusal>

@@ -1,14 +1,14 @@
 //! A segment's file, read whole.
-ghost use Rattle.std.specs.Prelude.{◌≡◌, ◌≢◌, ◌⊎◌, Some, None, IfOk, IfErr, OnOk, OnErr};
+ghost use Rattle.std.specs.Prelude.{◌≡◌, ◌≢◌, ◌⊎◌, ℕ, List, Some, None, IfOk, IfErr, OnOk, OnErr};
 ghost use Rattle.cat_base.specs.declared.refusal.Refusal.TheVariants.{Memory, Damaged};
 ghost use Rattle.cat_model.specs.Layout.{Layout, IsLayout, spelled_layout};
 ghost use Rattle.cat_items.specs.file_parts.Reading.{Finds, Gives, where_at};
-ghost use Rattle.cat_items.specs.file_parts.Layouts.{segment_start_at, layout_at};
+ghost use Rattle.cat_items.specs.file_parts.Layouts.{segment_start_at, fields_at, layout_at};
 ghost use Rattle.cat_items.specs.file_parts.Parts.{layout_in, IsParts};
 
 use crate::file_parts::columns::read_columns;
 use crate::file_parts::cursor::{Unreadable, take_u8, take_u32, take_u64};
-use crate::file_parts::fields::{take_fields, take_heads};
+use crate::file_parts::fields::{FieldHead, take_fields, take_heads};
 use crate::file_parts::heads::read_heads;
 use crate::file_parts::parts::SegmentParts;
 use crate::file_parts::passing::{pass_columns, pass_heads};
@@ -48,8 +48,22 @@ fn check(cursor: &mut Cursor<'_>) -> Result<(), Unreadable>
 {
     let start = read_start(cursor)?;
     let fields = take_heads(cursor)?;
-    pass_heads(start.1, cursor)?;
-    pass_columns(&fields, start.1, cursor)?;
+    check_rows(&fields, start.1, cursor)
+}
+
+// Judges what stands behind the fields, to the end.
+fn check_rows(
+    fields: &[FieldHead<'_>],
+    rows: u32,
+    cursor: &mut Cursor<'_>,
+) -> Result<(), Unreadable>
+    ensures ok { OnOk result ((bytes mid : List ℕ) (number : ℕ) → segment_start_at bytes ≡ Some ((number, rows), mid)
+        → fields_at mid ≡ Some (fields.now, cursor.old) → (l : Layout) × (layout_at bytes ≡ Some l)) }
+    ensures err { OnErr result ((bytes mid : List ℕ) (number : ℕ) → segment_start_at bytes ≡ Some ((number, rows), mid)
+        → fields_at mid ≡ Some (fields.now, cursor.old) → layout_at bytes ≡ None) }
+{
+    pass_heads(rows, cursor)?;
+    pass_columns(fields, rows, cursor)?;
     match cursor.ended() {
         Ok(()) => Ok(()),
         Err(_) => Err(Unreadable),

@@ -20,8 +20,7 @@ pub fn put_start(out: &mut Vec<u8>, number: SegNo, rows: u32) -> Result<(), Allo
     put_u32(out, MAGIC)?;
     out.push(VERSION)?;
     put_u64(out, number)?;
-    put_u32(out, rows)?;
-    Ok(())
+    put_u32(out, rows)
 }
 
 // A text of 2^32 bytes or more is refused as if memory were.
@@ -31,8 +30,7 @@ fn put_text(out: &mut Vec<u8>, text: &str) -> Result<(), AllocError>
     if text.len() > u32::MAX as usize {
         return Err(AllocError);
     }
-    put_bytes(out, text.as_bytes())?;
-    Ok(())
+    put_bytes(out, text.as_bytes())
 }
 
 // How many there are: 2^32 or more are refused as if memory were.
@@ -42,8 +40,7 @@ fn put_count(out: &mut Vec<u8>, count: usize) -> Result<(), AllocError>
     let Ok(short) = u32::try_from(count) else {
         return Err(AllocError);
     };
-    put_u32(out, short)?;
-    Ok(())
+    put_u32(out, short)
 }
 
 fn put_field(out: &mut Vec<u8>, field: &Field) -> Result<(), AllocError>
@@ -83,8 +80,7 @@ pub fn put_head(out: &mut Vec<u8>, number: WriteNo, id: &str, length: u32) -> Re
 {
     put_u64(out, number)?;
     put_text(out, id)?;
-    put_u32(out, length)?;
-    Ok(())
+    put_u32(out, length)
 }
 
 /// Appends how many texts there are, and each with its length before it, as a dictionary stands in a file. Lucene's
@@ -123,8 +119,7 @@ pub fn put_list(out: &mut Vec<u8>, numbers: &[u32]) -> Result<(), AllocError>
     ensures { OnOk result (out.new.items ≡ out.old.items ++ spelled_list numbers.now) }
 {
     put_count(out, numbers.len())?;
-    put_numbers(out, numbers)?;
-    Ok(())
+    put_numbers(out, numbers)
 }
 
 /// Appends the number of a row: a byte 0 where it has none, else a byte 1 and its 8 bytes. Lucene's `DocValuesConsumer`
@@ -135,13 +130,15 @@ pub fn put_number(out: &mut Vec<u8>, number: Option<i64>) -> Result<(), AllocErr
     ensures { OnOk result (out.new.items ≡ out.old.items ++ spelled_number number) }
 {
     match number {
-        None => out.push(0)?,
+        None => {
+            out.push(0)?;
+            Ok(())
+        }
         Some(value) => {
             out.push(1)?;
-            put_u64(out, value.cast_unsigned())?;
+            put_u64(out, value.cast_unsigned())
         }
     }
-    Ok(())
 }
 
 /// Appends a word and the indices of the rows that have it. Lucene's `PostingsWriterBase` writes a term's postings so, as
@@ -153,6 +150,5 @@ pub fn put_posted(out: &mut Vec<u8>, word: &str, rows: &[u32]) -> Result<(), All
     ensures { OnOk result (out.new.items ≡ out.old.items ++ spelled_postings (record { word = word.now; rows = rows.now })) }
 {
     put_text(out, word)?;
-    put_list(out, rows)?;
-    Ok(())
+    put_list(out, rows)
 }
