@@ -79,6 +79,10 @@ code_more codes i code ends new_ends ordinals new_ordinals end lt is added long 
     )
 
 -- a code is of at most one ordinal
+-- where there is no code yet, there is no ordinal
+pub no_code : (ends ordinals : List ℕ) → ends ≡ [] → ordinals ≡ [] → (length ordinals ≤ 0) × AreEnds 0 ends (length ordinals) × (pieces 0 ends ordinals ≡ [])
+no_code ends ordinals e f = rw (e, f) (omega arith, refl, refl)
+
 pub one_ordinal : (old new : List ℕ) (code : ℕ) → new ≡ old ++ ordinals_of code → length new ≤ length old + 1
 one_ordinal old new zero added = omega (arith, ap length added, length-append old [])
 one_ordinal old new (suc o) added = omega (arith, ap length added, length-append old (o ∷ []))

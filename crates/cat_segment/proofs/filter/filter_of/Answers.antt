@@ -1,5 +1,7 @@
-use Rattle.std.proofs.Common.{◌≡◌, ◌∙◌, ◌<◌, true, sym, ap, subst}
-use Rattle.cat_segment.specs.Filter.{id_hash, may_have}
+use Rattle.std.proofs.Common.{◌≡◌, ◌∙◌, ◌<◌, List, true, sym, ap, subst}
+use Rattle.std.proofs.lemmas.List.{take_all}
+use Rattle.cat_model.specs.Text.{Text}
+use Rattle.cat_segment.specs.Filter.{id_hash, may_have, IsFilter}
 use Rattle.cat_segment.proofs.Steps.{holds_more}
 use Rattle.cat_segment.proofs.filter.filter_of.Goals as goal
 
@@ -12,3 +14,6 @@ loop-id-preserved c =
       set = holds_more c.args.ids.now c.loop-id.id-index c.id-item.result c.loop-id-test.true c.id-item.is (λ id. may_have bits (id_hash id) ≡ true)
           (λ k d lt. c.insert.ensures.kept _ (c.loop-id.invariant.set k d lt)) here;
     }
+
+pub returns : goal.returns
+returns c = record { ok = subst (λ (ids : List Text). IsFilter ids c.loop-id.bits) (take_all c.loop-id.id-index c.args.ids.now c.loop-id-test.false) c.loop-id.invariant }

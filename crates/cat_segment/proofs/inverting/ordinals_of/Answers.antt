@@ -1,5 +1,7 @@
-use Rattle.std.proofs.Common.{refl, arith}
-use Rattle.cat_segment.proofs.Inverted.{code_more, one_ordinal}
+use Rattle.std.proofs.Common.{◌∙◌, map, refl, ap, arith}
+use Rattle.std.proofs.lemmas.List.{take_all}
+use Rattle.cat_segment.specs.Parts.{ordinals_of}
+use Rattle.cat_segment.proofs.Inverted.{code_more, no_code, one_ordinal}
 use Rattle.cat_segment.proofs.inverting.ordinals_of.Goals as goal
 
 pub loop-code-preserved : goal.loop-code-preserved
@@ -12,3 +14,18 @@ loop-code-preserved c =
       parts = more.0;
       rows = more.1;
     }
+
+pub loop-code-init : goal.loop-code-init
+loop-code-init c =
+    let start = no_code c.in_ok-ends.ends.items c.in_ok-ordinals.ordinals.items c.in_ok-ends.ensures.items c.in_ok-ordinals.ensures.items in
+    record {
+      few = start.0;
+      parts = start.1;
+      rows = start.2;
+    }
+
+pub returns-clause-parts : goal.returns-clause-parts
+returns-clause-parts c = c.loop-code.invariant.parts
+
+pub returns-clause-rows : goal.returns-clause-rows
+returns-clause-rows c = c.loop-code.invariant.rows ∙ ap (map ordinals_of) (take_all c.loop-code.code-index c.args.codes.now c.loop-code-test.false)
