@@ -10,7 +10,6 @@ use std::marker::Model;
 /// a segment.
 ///
 /// Contracts see it as one truth value for each row.
-#[derive(Debug)]
 pub struct DocSet {
     rows: RowSet,
 }

@@ -6,7 +6,7 @@ ghost use Rattle.cat_query.specs.View.{sign_of, primary_of, is_everything};
 use cat_base::Text;
 
 /// How a clause counts: `BooleanClause.Occur` in Lucene, without its `FILTER`.
-#[derive(Clone, Copy, Debug, Drop, PartialEq, Eq)]
+#[derive(Clone, Copy, Debug, Drop)]
 pub(crate) enum Sign {
     /// `+`: an item that is accepted matches the clause.
     Must,

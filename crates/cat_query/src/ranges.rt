@@ -9,7 +9,7 @@ use crate::matching::sole_primary;
 use crate::query::{Primary, Query, Test};
 
 /// A range of the numbers of one field: both ends are part of it, and an end that is absent bounds nothing.
-#[derive(Clone, Copy, Debug)]
+#[derive(Clone, Copy)]
 pub struct NumberRange<'a> {
     /// The name of the field.
     pub field: &'a str,
