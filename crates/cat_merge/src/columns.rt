@@ -97,9 +97,9 @@ pub(crate) fn add_column(
 {
     let index = columns.len();
     let kind = fields[index].kind();
-    let column = merged_column(alloc, inputs, maps, kind, index, rows)?;
     // Then nothing is left that may be refused once the order is added, so that each order is that of its column.
     columns.reserve(1)?;
+    let column = merged_column(alloc, inputs, maps, kind, index, rows)?;
     add_order(alloc, inputs, maps, kind, index, rows, orders)?;
     columns.push(column)?;
     Ok(())

@@ -36,6 +36,19 @@ fn terms_at(input: &Input, index: usize) -> &Terms
     }
 }
 
+/// What a merge of the terms of the field of this index takes of the input, whose rows go where the map says.
+fn part_of<'a>(input: &'a Input, row_map: &'a [u32], index: usize) -> MergeInput<'a>
+    requires field { index < length input.now.segment.schema }
+    requires kind { field_kind_at index input.now ≢ Kind.number }
+    ensures terms { result.terms.now ≡ texts_at index input.now }
+    ensures map { result.row_map.now ≡ row_map.now }
+{
+    MergeInput {
+        terms: terms_at(input, index),
+        row_map,
+    }
+}
+
 /// What a merge of the terms of the field of this index takes of each input.
 fn terms_in<'a>(
     alloc: Global,
@@ -50,10 +63,7 @@ fn terms_in<'a>(
 {
     let mut parts = Vec::with_capacity(alloc, inputs.len())?;
     for (place, input) in inputs.iter().enumerate() {
-        parts.push(MergeInput {
-            terms: terms_at(input, index),
-            row_map: &maps[place],
-        })?;
+        parts.push(part_of(input, &maps[place], index))?;
     }
     Ok(parts)
 }

@@ -1,5 +1,5 @@
 //! The segment that a merge makes of the rows that it kept.
-ghost use Rattle.std.specs.Prelude.{◌≡◌, ◌≢◌, ◌<◌, [], map, length, IfOk};
+ghost use Rattle.std.specs.Prelude.{◌≡◌, ◌≢◌, ◌<◌, ◌++◌, ◌∷◌, [], map, length, IfOk, OnOk};
 ghost use Rattle.cat_base.specs.declared.refusal.Refusal.TheVariants.{Memory};
 ghost use Rattle.cat_items.specs.file_parts.Parts.{heads_in};
 ghost use Rattle.cat_model.specs.Layout.{head_of};
@@ -17,6 +17,23 @@ use cat_items::file_parts::SegmentParts;
 use cat_views::cat_segment::{Segment, assemble_runs};
 use std::alloc::{AllocError, Global};
 
+/// Adds the number of the write that put the row, the row's id, and the length of its source.
+fn unzip(
+    row: KeptRow,
+    numbers: &mut Vec<WriteNo>,
+    ids: &mut Vec<Text>,
+    lengths: &mut Vec<u32>,
+) -> Result<(), AllocError>
+    ensures numbers { OnOk result (numbers.new.items ≡ numbers.old.items ++ row.number ∷ []) }
+    ensures ids { OnOk result (ids.new.items ≡ ids.old.items ++ row.id ∷ []) }
+    ensures lengths { OnOk result (lengths.new.items ≡ lengths.old.items ++ row.length ∷ []) }
+{
+    numbers.push(row.number())?;
+    lengths.push(row.length())?;
+    ids.push(row.into_id())?;
+    Ok(())
+}
+
 /// The numbers of the writes that put the rows, the rows' ids, and the lengths of their sources.
 fn unzipped(
     alloc: Global,
@@ -30,9 +47,7 @@ fn unzipped(
     let mut ids = Vec::with_capacity(alloc, kept.len())?;
     let mut lengths = Vec::with_capacity(alloc, kept.len())?;
     for row in kept {
-        numbers.push(row.number())?;
-        lengths.push(row.length())?;
-        ids.push(row.into_id())?;
+        unzip(row, &mut numbers, &mut ids, &mut lengths)?;
     }
     Ok((numbers, ids, lengths))
 }

@@ -1,6 +1,9 @@
 -- What was read of ranges, and what a merge has copied by them.
+use Rattle.std.proofs.lemmas.Result.{IfErr-weaker}
+use Rattle.cat_directory.specs.Frames.{FailsReading}
+use Rattle.cat_base.specs.declared.refusal.Refusal.TheVariants.{Device}
 use Rattle.std.proofs.Common.{◌≡◌, ◌≢◌, ℕ, zero, suc, ◌+◌, ◌-◌, ◌<◌, ◌≤◌, List, [], ◌∷◌, ◌++◌, length, get_or, take, drop, map, replicate, Some, None, Result, Ok, Err, IfErr, refl, sym, ◌∙◌, ap, ap₂, subst, arith, zero-add, inl, inr, true, false, Bool}
-use Rattle.std.specs.Prelude.{IsErr, IsErrAnd, Any, min, sum}
+use Rattle.std.specs.Prelude.{IsErr, IsErrAnd, Any, min, sum, IfOk, OnOk}
 use Rattle.std.specs.List.{flat_map}
 use Rattle.std.proofs.lemmas.List.{take_more, length-append, length-replicate, map-append, length-take-le, length-drop}
 use Rattle.std.proofs.lemmas.List.Sums.{sum_by-append, sum_by-cons}
@@ -40,8 +43,31 @@ fault_is (Err x) e so = ap Err so.1
 pub passed : {T : Type 0} (P : Refusal → Type 0) (r : Result T Refusal) (e : Refusal) → IsErr r × IsErrAnd r (λ x. x ≡ e) → P e → IfErr r P
 passed P r e so p = subst (λ (r : Result _ Refusal). IfErr r P) (sym (fault_is r e so)) p
 
+-- nothing is done, or answered
+pub not_done : {T : Type 0} (P : Type 0) (r : Result T Refusal) (e : Refusal) → IsErr r × IsErrAnd r (λ x. x ≡ e) → OnOk r P
+not_done P r e so = subst (λ (r : Result _ Refusal). OnOk r P) (sym (fault_is r e so)) tt
+
+pub not_answered : {T : Type 0} (P : T → Type 0) (r : Result T Refusal) (e : Refusal) → IsErr r × IsErrAnd r (λ x. x ≡ e) → IfOk r P
+not_answered P r e so = subst (λ (r : Result _ Refusal). IfOk r P) (sym (fault_is r e so)) tt
+
 pub counts_passed : {T : Type 0} (old new : ℕ) (r : Result T Refusal) (e : Refusal) → IsErr r × IsErrAnd r (λ x. x ≡ e) → ReadingCount old new e → CountsReading old new r
 counts_passed old new r e so counted = subst (λ (r : Result _ Refusal). CountsReading old new r) (sym (fault_is r e so)) counted
+
+-- a call that reads, where a `?` passes its refusal on
+pub fails_on : {S T X : Type 0} {can_fail : S → Type 0} {faults : S → ℕ} {a b : S} {r : Result X Refusal} {e : Refusal} → IsErr r × IsErrAnd r (λ x. x ≡ e) → FailsReading {X = T} can_fail faults a b (Err e)
+    → FailsReading can_fail faults a b r
+fails_on {S} {T} {X} {can_fail} {faults} {a} {b} {r} {e} so f = record {
+  device = passed (λ (x : Refusal). x ≡ Device → can_fail a) r e so f.device;
+  counted = counts_passed (faults a) (faults b) r e so f.counted;
+}
+
+-- behind calls that count nothing
+pub fails_after : {S X : Type 0} {can_fail : S → Type 0} {faults : S → ℕ} {a b c : S} {r : Result X Refusal} → (can_fail b → can_fail a) → faults b ≡ faults a → FailsReading can_fail faults b c r
+    → FailsReading can_fail faults a c r
+fails_after {S} {X} {can_fail} {faults} {a} {b} {c} {r} can same f = record {
+  device = IfErr-weaker r _ _ (λ e given is. can (given is)) f.device;
+  counted = subst (λ (n : ℕ). CountsReading n (faults c) r) same f.counted;
+}
 
 pub writing_counted : {T : Type 0} (old new : ℕ) (r : Result T Refusal) (e : Refusal) → IsErr r × IsErrAnd r (λ x. x ≡ e) → WritingCount old new e → CountsWriting old new r
 writing_counted old new r e so counted = subst (λ (r : Result _ Refusal). CountsWriting old new r) (sym (fault_is r e so)) counted

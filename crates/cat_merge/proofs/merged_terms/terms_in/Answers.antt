@@ -15,11 +15,11 @@ loop-place-preserved c =
     let inside : c.loop-place.place < length c.args.maps.now = omega (arith, within, length-map c.args.maps.now (λ m. m.items), ap length c.requires.maps, length-codes_of 0 c.args.inputs.now) in
     record {
       terms = ap (map (λ p. p.terms.now)) c.in_ok-push.ensures.items ∙ map_push (λ p. p.terms.now) c.loop-place.parts.items _
-          ∙ ap₂ (λ (a : List (List (List Text))) (b : List (List Text)). a ++ b ∷ []) c.loop-place.invariant.terms (c.terms_at.ensures ∙ ap (texts_at c.args.index) c.index-inputs-place.is)
+          ∙ ap₂ (λ (a : List (List (List Text))) (b : List (List Text)). a ++ b ∷ []) c.loop-place.invariant.terms (c.part_of.ensures.terms ∙ ap (texts_at c.args.index) c.index-inputs-place.is)
           ∙ sym (map_more (texts_at c.args.index) c.args.inputs.now c.loop-place.place c.index-inputs-place.result within);
       maps = ap (map (λ p. p.row_map.now)) c.in_ok-push.ensures.items ∙ map_push (λ p. p.row_map.now) c.loop-place.parts.items _
           ∙ ap₂ (λ (a : List (List ℕ)) (b : List ℕ). a ++ b ∷ []) c.loop-place.invariant.maps
-          (c.deref.ensures.value ∙ ap (λ m. m.items) c.index-maps-place.is ∙ sym (get_or-map (λ m. m.items) c.args.maps.now c.loop-place.place c.index-maps-place.result [] inside)
+          (c.part_of.ensures.map ∙ c.deref.ensures.value ∙ ap (λ m. m.items) c.index-maps-place.is ∙ sym (get_or-map (λ m. m.items) c.args.maps.now c.loop-place.place c.index-maps-place.result [] inside)
           ∙ ap (λ l. get_or l c.loop-place.place []) c.requires.maps)
           ∙ sym (take_more (codes_of 0 c.args.inputs.now) c.loop-place.place [] (omega (arith, within, length-codes_of 0 c.args.inputs.now)));
     }

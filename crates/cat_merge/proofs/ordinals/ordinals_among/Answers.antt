@@ -1,5 +1,5 @@
-use Rattle.std.proofs.Common.{◌≡◌, ◌+◌, ◌<◌, ◌^◌, ◌++◌, ◌∷◌, [], List, ℕ, take, sym, ap, ◌∙◌, subst}
-use Rattle.std.proofs.lemmas.List.{take_more}
+use Rattle.std.proofs.Common.{◌≡◌, ◌+◌, ◌<◌, ◌^◌, ◌++◌, ◌∷◌, [], List, ℕ, take, sym, ap, ◌∙◌, subst, arith}
+use Rattle.std.proofs.lemmas.List.{take_more, take_all}
 use Rattle.std.proofs.lemmas.List.Elements.{All-push}
 use Rattle.std.specs.Prelude.{All}
 use Rattle.cat_model.specs.Text.{Text}
@@ -20,3 +20,9 @@ loop-text-preserved c =
           (All-push (λ o. o + 1 < 2 ^ 32) c.loop-text.ordinals.items c.unwrap_or.result c.loop-text.invariant.bound
           (ordinal_fits c.args.words.now c.text-item.result c.ordinal_of.result c.unwrap_or.result c.ordinal_of.ensures c.unwrap_or.ensures c.requires.few));
     }
+
+pub returns : goal.returns
+returns c = record {
+  ok = subst (λ (l : List Text). AreOrdinalsAmong c.args.words.now l c.loop-text.ordinals.items) (take_all c.loop-text.text-index c.args.texts.now (omega arith)) c.loop-text.invariant.ordinals;
+  bound = c.loop-text.invariant.bound;
+}

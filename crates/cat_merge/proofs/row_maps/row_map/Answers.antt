@@ -1,3 +1,5 @@
+use Rattle.cat_merge.specs.Maps.{codes_from}
+use Rattle.std.proofs.lemmas.List.{take_all}
 use Rattle.std.proofs.Common.{arith, true, false, sym, ap, ◌∙◌}
 use Rattle.cat_merge.proofs.Codes.{coded, counted}
 use Rattle.cat_merge.proofs.row_maps.row_map.Goals as goal
@@ -18,3 +20,8 @@ loop-row-preserved c = elim c.if-is_live.branch [
     next = w.next-is ∙ counted c.args.first c.loop-row.next c.args.live.now c.loop-row.row (omega arith) c.loop-row.invariant.next false (sym c.is_live.ensures ∙ w.if-is_live.false);
   }
 ]
+
+pub returns : goal.returns
+returns c = record {
+  ok = c.loop-row.invariant.map ∙ ap (codes_from c.args.first) (take_all c.loop-row.row c.args.live.now (omega arith));
+}

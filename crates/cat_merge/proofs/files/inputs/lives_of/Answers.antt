@@ -1,4 +1,5 @@
-use Rattle.std.proofs.Common.{◌≡◌, length, ◌∙◌, ap, subst}
+use Rattle.std.proofs.lemmas.List.{take_all}
+use Rattle.std.proofs.Common.{◌≡◌, length, ◌∙◌, ap, subst, All, map, take, arith}
 use Rattle.std.proofs.lemmas.List.Elements.{All-more}
 use Rattle.cat_model.specs.View.{Leaf}
 use Rattle.cat_merge.proofs.files.Merged.{mapped_more}
@@ -11,3 +12,11 @@ loop-leaf-preserved c = record {
   long = All-more (λ (leaf : Leaf). length leaf.live ≡ length leaf.segment.rows) c.args.leaves.now c.loop-leaf.leaf-index c.leaf-item.result c.loop-leaf-test.true c.loop-leaf.invariant.long
       (subst (λ (leaf : Leaf). length leaf.live ≡ length leaf.segment.rows) c.leaf-item.is c.live.ensures.long);
 }
+
+pub returns : goal.returns
+returns c =
+    let all : take c.loop-leaf.leaf-index c.args.leaves.now ≡ c.args.leaves.now = take_all c.loop-leaf.leaf-index c.args.leaves.now (omega arith) in
+    record {
+      ok = c.loop-leaf.invariant.lives ∙ ap (map (λ (leaf : Leaf). leaf.live)) all;
+      long = subst (All (λ (leaf : Leaf). length leaf.live ≡ length leaf.segment.rows)) all c.loop-leaf.invariant.long;
+    }

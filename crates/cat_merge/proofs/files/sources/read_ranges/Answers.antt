@@ -1,12 +1,15 @@
-use Rattle.std.proofs.Common.{◌≡◌, ◌++◌, get_or, rules, ◌∙◌, ap}
-use Rattle.std.specs.Prelude.{Any}
+use Rattle.cat_merge.specs.Copied.{bytes_in}
+use Rattle.std.proofs.lemmas.List.{take_all}
+use Rattle.std.specs.List.{flat_map}
+use Rattle.std.proofs.Common.{◌≡◌, ◌++◌, get_or, ◌∙◌, ap, List, length, map, take, arith}
+use Rattle.std.specs.Prelude.{Any, sum}
 use Rattle.cat_base.specs.declared.refusal.Refusal.{Refusal}
 use Rattle.cat_base.specs.declared.refusal.Refusal.TheVariants.{Damaged}
 use Rattle.cat_merge.specs.declared.sources.SourceRange.{SourceRange}
 use Rattle.cat_model.specs.Text.{Text}
-use Rattle.cat_merge.specs.files.Sources.{IsCutOff}
+use Rattle.cat_merge.specs.files.Sources.{IsCutOff, TellsAll, sources_told}
 use Rattle.cat_merge.proofs.Frames.{reads_on}
-use Rattle.cat_merge.proofs.files.Ranges.{passed, read_more, lens_more, some_cut_off, no_range, at_index}
+use Rattle.cat_merge.proofs.files.Ranges.{passed, read_more, lens_more, some_cut_off, no_range, at_index, fails_after, fails_on, not_answered}
 use Rattle.cat_merge.proofs.files.sources.read_ranges.Goals as goal
 
 pub returns-in_err-more-clause-damaged : goal.returns-in_err-more-clause-damaged
@@ -27,5 +30,32 @@ loop-range-preserved g c =
       long = lens_more c.args.ranges.now c.loop-range.range-index range c.loop-range.bytes.items c.in_ok-more.more.items c.extend_from_slice.new.self.items
           c.loop-range-test.true at c.loop-range.invariant.long c.in_ok-more.ensures.len joined;
       frame = reads_on c.loop-range.invariant.frame c.in_ok-more.ensures.frame;
-      count = search rules;
+      count = c.in_ok-more.ensures.fails.counted ∙ c.loop-range.invariant.count;
+    }
+
+pub returns-in_err-more-clause-ok : goal.returns-in_err-more-clause-ok
+returns-in_err-more-clause-ok g c =
+    not_answered (λ v. TellsAll (g.S.Holder.bytes c.args.shelf.now) → v.items ≡ flat_map (bytes_in (sources_told (g.S.Holder.bytes c.args.shelf.now))) c.args.ranges.now) _ _ c.from_residual.ensures
+
+pub returns-in_err-more-clause-len : goal.returns-in_err-more-clause-len
+returns-in_err-more-clause-len g c = not_answered (λ v. length v.items ≡ sum (map (λ (r : SourceRange). r.len) c.args.ranges.now)) _ _ c.from_residual.ensures
+
+pub returns-in_err-more-clause-frame : goal.returns-in_err-more-clause-frame
+returns-in_err-more-clause-frame g c = reads_on c.loop-range.invariant.frame c.in_err-more.ensures.frame
+
+pub returns-in_err-more-clause-fails : goal.returns-in_err-more-clause-fails
+returns-in_err-more-clause-fails g c = fails_after c.loop-range.invariant.frame.can c.loop-range.invariant.count (fails_on c.from_residual.ensures c.in_err-more.ensures.fails)
+
+pub returns-in_err-extend_from_slice-clause-frame : goal.returns-in_err-extend_from_slice-clause-frame
+returns-in_err-extend_from_slice-clause-frame g c = reads_on c.loop-range.invariant.frame c.in_ok-more.ensures.frame
+
+pub returns : goal.returns
+returns g c =
+    let all : take c.loop-range.range-index c.args.ranges.now ≡ c.args.ranges.now = take_all c.loop-range.range-index c.args.ranges.now (omega arith) in
+    record {
+      ok = λ tells. c.loop-range.invariant.read tells ∙ ap (flat_map (bytes_in (sources_told (g.S.Holder.bytes c.args.shelf.now)))) all;
+      len = c.loop-range.invariant.long ∙ ap (λ (l : List SourceRange). sum (map (λ (r : SourceRange). r.len) l)) all;
+      damaged = tt;
+      frame = c.loop-range.invariant.frame;
+      fails = record { device = tt; counted = c.loop-range.invariant.count };
     }
