@@ -8,7 +8,7 @@ use std::alloc::AllocError;
 
 /// A segment, by its number, and a query. Two keys are equal where the numbers are and the queries are one tree, however
 /// their texts were spelled (Lucene: in `LRUQueryCache` the core cache key of a leaf, and a `Query`).
-#[derive(Debug, Drop, PartialEq, Eq, Hash)]
+#[derive(Drop, PartialEq, Eq, Hash)]
 pub struct Key {
     /// The number of the segment.
     pub segment: SegNo,

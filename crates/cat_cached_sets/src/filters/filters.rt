@@ -204,5 +204,10 @@ impl Filters {
 fn has_number(leaves: &[Leaf], number: SegNo) -> bool
     ensures { result ≡ list_any (λ l. l.segment.number == number) leaves.now }
 {
-    leaves.iter().any(|leaf| leaf.segment().number() == number)
+    for leaf in leaves {
+        if leaf.segment().number() == number {
+            return true;
+        }
+    }
+    false
 }

@@ -4,7 +4,7 @@ ghost use Rattle.std.specs.Arc.{arc_value};
 ghost use Rattle.std.specs.Map.{lookup};
 ghost use Rattle.cat_cached_sets.specs.cache.Cached.{cache_key_of, same_key, used};
 ghost use Rattle.cat_query.specs.View.{query_of};
-ghost use Rattle.cat_cached_sets.specs.filters.Filters.{set_in, sets_used_in};
+ghost use Rattle.cat_cached_sets.specs.filters.Filters.{cache_key_in, set_in, sets_used_in};
 ghost use Rattle.cat_model.specs.View.{segments_of};
 
 use crate::cache::{FilterCache, Key};
@@ -23,6 +23,20 @@ fn set_under(cache: &mut FilterCache, key: &Key) -> Result<Option<Arc<DocSet>>, 
         Some(set) => Ok(Some(Arc::try_clone(set)?)),
         None => Ok(None),
     }
+}
+
+/// The set that stands for the leaf's segment and the key's query. The key names that segment then.
+fn set_for(
+    cache: &mut FilterCache,
+    key: &mut Key,
+    leaf: &Leaf,
+) -> Result<Option<Arc<DocSet>>, AllocError>
+    ensures query { key.new.query ≡ key.old.query }
+    ensures set { IfOk result (λ s. option_map arc_value s ≡ set_in cache.old (query_of key.old.query) leaf.now.segment) }
+    ensures used { cache.new ≡ used (cache_key_in (query_of key.old.query) leaf.now.segment) cache.old }
+{
+    key.segment = leaf.segment().number();
+    set_under(cache, key)
 }
 
 /// No set, as many times as counted.
@@ -68,8 +82,7 @@ pub(crate) fn sets_under(
     }
     let mut sets = Vec::with_capacity(alloc, leaves.len());
     for leaf in leaves {
-        key.segment = leaf.segment().number();
-        sets = with_last(sets, set_under(cache, key));
+        sets = with_last(sets, set_for(cache, key, leaf));
     }
     sets
 }

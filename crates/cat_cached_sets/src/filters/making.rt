@@ -1,12 +1,13 @@
 //! Sets in the making: which is begun next, and one step of it.
-ghost use Rattle.std.specs.Prelude.{◌≡◌, find, map, option_map, IfOk, OnErr};
+ghost use Rattle.std.specs.Prelude.{◌≡◌, find, map, option_map, IfOk, OnErr, OnOk};
 ghost use Rattle.cat_query.specs.View.{query_of};
-ghost use Rattle.cat_cached_sets.specs.filters.Filters.{warm_begun, is_missing, pairs};
+ghost use Rattle.cat_cached_sets.specs.cache.Cached.{with_stored_set};
+ghost use Rattle.cat_cached_sets.specs.filters.Filters.{cache_key_in, warm_begun, is_missing, pairs};
 ghost use Rattle.cat_cached_sets.specs.filters.Steps.{IsMade, IsMadeInPart};
 ghost use Rattle.cat_model.specs.View.{segments_of};
 
 use crate::cache::{FilterCache, Key, Warm, Warming};
-use cat_query::Query;
+use cat_query::{DocSet, Query};
 use cat_views::Leaf;
 use std::alloc::{AllocError, Global};
 use std::sync::Arc;
@@ -47,6 +48,20 @@ pub(crate) fn next_begun(
     Ok(None)
 }
 
+/// Stores the set, of all rows of the one in the making.
+fn store_made(
+    alloc: Global,
+    cache: &mut FilterCache,
+    warm: &Warm,
+    set: DocSet,
+) -> Result<(), AllocError>
+    ensures ok { OnOk result (cache.new ≡ with_stored_set (cache_key_in warm.now.query warm.now.segment) set cache.old) }
+    ensures err { OnErr result (cache.new ≡ cache.old) }
+{
+    let key = warm.key().copy()?;
+    cache.store(key, Arc::new(alloc, set)?)
+}
+
 /// One step of the set in the making: how many of its rows are passed in all, or none once it is stored. An error leaves it as
 /// it was, or with all of its rows passed.
 pub(crate) fn pass_on(
@@ -57,11 +72,11 @@ pub(crate) fn pass_on(
     ensures ok { IfOk result (IsMade cache.old warm.old cache.new warm.new) }
     ensures err { OnErr result (IsMadeInPart cache.old warm.old cache.new warm.new) }
 {
-    let set = match warm.step(alloc)? {
-        Warming::Passed(rows) => return Ok(Some(rows)),
-        Warming::Made(set) => set,
-    };
-    let key = warm.key().copy()?;
-    cache.store(key, Arc::new(alloc, set)?)?;
-    Ok(None)
+    match warm.step(alloc)? {
+        Warming::Passed(rows) => Ok(Some(rows)),
+        Warming::Made(set) => {
+            store_made(alloc, cache, warm, set)?;
+            Ok(None)
+        }
+    }
 }
