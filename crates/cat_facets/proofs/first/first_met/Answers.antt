@@ -1,4 +1,4 @@
-use Rattle.std.proofs.Common.{◌+◌, List, length, get_or, take, sym, ap, ◌∙◌, arith, subst}
+use Rattle.std.proofs.Common.{◌+◌, List, length, get_or, take, refl, sym, ap, ◌∙◌, arith, subst}
 use Rattle.std.proofs.lemmas.List.{length-take, take_all}
 use Rattle.cat_model.specs.Page.{first_ranked}
 use Rattle.cat_model.specs.Ranks.{AreApart}
@@ -46,3 +46,9 @@ returns-clause-first c =
     c.in_ok-into_items.ensures.ranked (met_from 0 seen) c.loop-ordinal.invariant.best (all_pairs (AreApart label_comes_first) (met_from 0 seen) (met_apart 0 seen))
     ∙ ap (first_ranked label_comes_first (met_from 0 seen)) c.loop-ordinal.invariant.limit
     ∙ ap (λ xs. first_ranked label_comes_first (met_from 0 xs) c.args.n) (take_all c.loop-ordinal.ordinal ts (omega arith))
+
+pub loop-ordinal-init : goal.loop-ordinal-init
+loop-ordinal-init c = record { met = refl; limit = c.new-best.ensures.limit; best = c.new-best.ensures.best }
+
+pub returns-clause-met : goal.returns-clause-met
+returns-clause-met c = c.loop-ordinal.invariant.met ∙ ap (λ xs. length (met_from 0 xs)) (take_all c.loop-ordinal.ordinal c.args.totals.now (omega arith))

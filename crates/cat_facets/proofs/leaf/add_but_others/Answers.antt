@@ -1,7 +1,8 @@
-use Rattle.std.proofs.Common.{◌≡◌, ℕ, List, Bool, true, not, length, sym, ap, ◌∙◌, arith}
-use Rattle.std.specs.Prelude.{replicate}
+use Rattle.std.proofs.Common.{◌≡◌, ℕ, List, Bool, true, not, length, sym, ap, ◌∙◌, subst, arith}
+use Rattle.std.specs.Prelude.{replicate, Option, IfSome}
 use Rattle.cat_model.specs.Facets.{is_empty}
-use Rattle.cat_model.specs.Ordinals.{text_at}
+use Rattle.cat_model.specs.GlobalOrdinals.{IsOrdinalMap}
+use Rattle.cat_model.specs.Ordinals.{dictionary_of, text_at}
 use Rattle.cat_model.specs.RowSets.{first_only, joined}
 use Rattle.cat_model.specs.Text.{Text}
 use Rattle.cat_model.specs.View.{selected}
@@ -16,6 +17,34 @@ left hits set old n is all long = is ∙ ap (λ s. joined first_only s hits) (al
 -- counts over it
 counted : (count : List (List Text) → ℕ) (hits set : List Bool) (rows column : List (List Text)) → set ≡ others hits → rows ≡ column → count (selected set rows) ≡ count (selected (others hits) column)
 counted count hits set rows column is same = ap (λ s. count (selected s rows)) is ∙ ap (λ x. count (selected (others hits) x)) same
+
+-- the global ordinals of the column, however they are handed on
+ordinal_map : (labels : List Text) (rows column : List (List Text)) (globals own : List ℕ) → rows ≡ column → globals ≡ own
+    → IsOrdinalMap labels (dictionary_of column) own → IsOrdinalMap labels (dictionary_of rows) globals
+ordinal_map labels rows column globals own same is map =
+    subst (λ (x : List (List Text)). IsOrdinalMap labels (dictionary_of x) globals) (sym same) (subst (λ (gs : List ℕ). IsOrdinalMap labels (dictionary_of column) gs) (sym is) map)
+
+pub add_all-requires-clause-map : goal.add_all-requires-clause-map
+add_all-requires-clause-map c =
+    ordinal_map c.args.labels.now c.terms.result.now c.args.column.now c.deref.result.now c.args.known.now.globals.items c.terms.ensures c.deref.ensures.value c.requires.known.ordinals
+
+pub take_rows-unmatched-requires-clause-long : goal.take_rows-unmatched-requires-clause-long
+take_rows-unmatched-requires-clause-long c = c.add_all.auto.totals ∙ c.requires.long
+
+pub take_rows-unmatched-requires-clause-map : goal.take_rows-unmatched-requires-clause-map
+take_rows-unmatched-requires-clause-map c =
+    ordinal_map c.args.labels.now c.labels.result.now c.args.column.now c.deref-2.result.now c.args.known.now.globals.items c.labels.ensures c.deref-2.ensures.value c.requires.known.ordinals
+
+pub labelled_in-requires : goal.labelled_in-requires
+labelled_in-requires c = subst (λ (x : List (List Text)). IfSome c.args.known.now.labelled (λ n. n ≡ labelled_count x)) (sym c.labels-2.ensures) c.requires.known.labelled
+
+pub returns-clause-known : goal.returns-clause-known
+returns-clause-known c = record {
+  ordinals = c.requires.known.ordinals;
+  labelled =
+      subst (λ (o : Option ℕ). IfSome o (λ n. n ≡ labelled_count c.args.column.now)) (sym c.labelled_in.ensures.known)
+      (c.labelled_in.ensures.value ∙ ap labelled_count c.labels-2.ensures);
+}
 
 pub take_rows-unmatched-requires-clause-rows : goal.take_rows-unmatched-requires-clause-rows
 take_rows-unmatched-requires-clause-rows c =

@@ -32,3 +32,15 @@ returns-clause-kept c =
       labelled = c.in_ok-labelled.ensures.labelled ∙ sym (ap labelled_count rows);
       counts = subst (λ rs. AreCounts c.args.labels.now rs c.in_ok-labelled.totals.items) (sym rows) c.in_ok-labelled.ensures.counts;
     }
+
+pub totals_of-requires : goal.totals_of-requires
+totals_of-requires c = c.requires.known
+
+pub returns-clause-known : goal.returns-clause-known
+returns-clause-known c = c.in_ok-labelled.ensures.known
+
+pub returns-clause-labelled : goal.returns-clause-labelled
+returns-clause-labelled c = c.in_ok-labelled.ensures.labelled
+
+pub returns-clause-counts : goal.returns-clause-counts
+returns-clause-counts c = c.in_ok-labelled.ensures.counts

@@ -1,6 +1,7 @@
-use Rattle.std.proofs.Common.{◌≡◌, ℕ, ◌+◌, ◌<◌, ◌++◌, ◌∷◌, [], length, get_or, map, not, sym, ap, ◌∙◌, arith, append_assoc, append-nil}
+use Rattle.std.proofs.Common.{◌≡◌, ℕ, ◌+◌, ◌<◌, ◌++◌, ◌∷◌, [], length, get_or, map, not, refl, sym, ap, ◌∙◌, subst, arith, append_assoc, append-nil}
 use Rattle.std.proofs.lemmas.List.{length-map}
 use Rattle.std.proofs.lemmas.List.Elements.{All-get_or}
+use Rattle.std.specs.Prelude.{All}
 use Rattle.std.proofs.lemmas.List.Sums.{count_by-le-length}
 use Rattle.cat_base.specs.Texts.{IsTextSet}
 use Rattle.cat_model.specs.Facets.{is_empty}
@@ -91,3 +92,22 @@ returns-clause-counts c = λ g lt.
     c.loop-row.invariant.counts g lt
     ∙ ap (λ n. get_or c.loop-row.totals g 0 + n) (ap (λ ys. label_count t (map (λ r. get_or c.args.column.now r []) ys)) all
     ∙ ap (label_count t) (at_indices c.args.rows.now c.args.column.now [] c.requires.rows))
+
+pub loop-row-init : goal.loop-row-init
+loop-row-init c = record {
+  can = tt;
+  finite = tt;
+  rows = c.into_iter-row-iterator.ensures.into_iter_gives ∙ c.iter-row-items.ensures;
+  counts = λ g lt. omega arith;
+  labelled = refl;
+}
+
+pub take_row-requires-clause-within : goal.take_row-requires-clause-within
+take_row-requires-clause-within c =
+    let long : length (dictionary_of c.args.column.now) ≡ length c.args.globals.now = sym (ap length c.requires.map.texts) ∙ length-map c.args.globals.now (text_at c.args.labels.now) in
+    subst (λ (n : ℕ). All (λ o. o < n) c.ordinals-ordinals.result.now) long c.ordinals-ordinals.ensures.bound
+
+pub take_row-requires-clause-globals : goal.take_row-requires-clause-globals
+take_row-requires-clause-globals c =
+    let long : length c.args.labels.now ≡ length c.loop-row.totals = omega (arith, c.requires.long, c.loop-row.auto.totals) in
+    subst (λ (n : ℕ). All (λ g. g < n) c.args.globals.now) long c.requires.map.within
