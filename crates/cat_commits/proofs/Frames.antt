@@ -3,9 +3,9 @@ use Rattle.std.proofs.Common.{◌≡◌, ◌∙◌, ℕ, sym, subst, Result, Err
 use Rattle.std.specs.Prelude.{◌⊎◌, IsErr, IsErrAnd}
 use Rattle.std.proofs.lemmas.Result.{IfErr-weaker}
 use Rattle.cat_base.specs.declared.refusal.Refusal.{Refusal}
-use Rattle.cat_base.specs.declared.refusal.Refusal.TheVariants.{Damaged, Device, Memory}
+use Rattle.cat_base.specs.declared.refusal.Refusal.TheVariants.{Damaged, Device, Memory, Kind}
 use Rattle.cat_directory.specs.declared.name.FileName.{FileName}
-use Rattle.cat_directory.specs.Devices.{CountsReading, FileContent}
+use Rattle.cat_directory.specs.Devices.{CountsReading, FileContent, ReadingCount}
 use Rattle.cat_directory.specs.Frames.{FailsReading, OnlyReads}
 use Rattle.cat_ledger_laws.specs.shape.Ties.{ToldFiles}
 use Rattle.cat_commits.proofs.reading.Parts.{as_one}
@@ -55,3 +55,7 @@ module _ {S X : Type 0} {can_fail : S → Type 0} {faults : S → ℕ} where
     device = passed (λ (x : Refusal). x ≡ Device → can_fail a) r e so (judged (can_fail a) e is);
     counted = counts_on (faults a) (faults b) r e so (counts_judged (faults a) (faults b) e is same);
   }
+
+-- a call that reads is refused for no other kind
+pub no_kind : (X : Type 0) (old new : ℕ) (e : Refusal) → ReadingCount old new e → e ≡ Kind → X
+no_kind X old new e counted is = absurd (subst (ReadingCount old new) is counted)

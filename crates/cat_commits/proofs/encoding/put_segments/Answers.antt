@@ -1,4 +1,5 @@
-use Rattle.std.proofs.Common.{ℕ, List, ◌++◌, take, sym, ap, ◌∙◌, append_assoc}
+use Rattle.std.proofs.lemmas.List.{take_all}
+use Rattle.std.proofs.Common.{ℕ, List, ◌++◌, take, sym, ap, ◌∙◌, append_assoc, arith}
 use Rattle.std.specs.List.{flat_map}
 use Rattle.cat_commits.proofs.Lists.{flat_map_more}
 use Rattle.cat_model.specs.CommitFile.{ListedSegment, spelled_listed}
@@ -13,3 +14,8 @@ loop-segment-preserved c =
     ∙ append_assoc c.args.out.now.items front (spelled_listed c.segment-item.result)
     ∙ ap (λ (s : ListedSegment). c.args.out.now.items ++ (front ++ spelled_listed s)) c.segment-item.is
     ∙ ap (λ (l : List ℕ). c.args.out.now.items ++ l) (sym more)
+
+pub returns : goal.returns
+returns c =
+    c.loop-segment.invariant
+    ∙ ap (λ (l : List ListedSegment). c.args.out.now.items ++ flat_map spelled_listed l) (take_all c.loop-segment.segment-index c.args.segments.now (omega arith))

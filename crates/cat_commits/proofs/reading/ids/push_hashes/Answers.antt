@@ -1,7 +1,8 @@
-use Rattle.std.proofs.Common.{◌≡◌, ◌<◌, List, Bool, ℕ, length, sym, ap, ◌∙◌, subst, arith}
+use Rattle.std.proofs.lemmas.List.{take_all}
+use Rattle.std.proofs.Common.{◌≡◌, ◌<◌, List, Bool, ℕ, length, sym, ap, ◌∙◌, subst, arith, ◌≤◌, ◌++◌, map, ap₂}
 use Rattle.std.specs.List.{HoldsAt}
 use Rattle.cat_model.specs.RowSets.{has_row}
-use Rattle.cat_model.specs.View.{Segment, Row}
+use Rattle.cat_model.specs.View.{Segment, Row, selected}
 use Rattle.cat_views.specs.cat_segment.Filter.{id_hash}
 use Rattle.cat_commits.proofs.reading.Known.{row_kept, row_left}
 use Rattle.cat_commits.proofs.reading.ids.push_hashes.Goals as goal
@@ -26,3 +27,12 @@ loop-row-preserved c =
           (ap (λ (s : List Bool). has_row s c.loop-row.row) (sym c.live-live.ensures.value) ∙ sym c.is_live.ensures ∙ w.if-is_live.false)
           (ap (λ v. v.items) w.hashes-is)
     ]
+
+pub returns : goal.returns
+returns c =
+    let live : List Bool = c.args.leaf.now.live in
+    let rows : List Row = c.args.leaf.now.segment.rows in
+    let past : length rows ≤ c.loop-row.row = subst (λ (s : Segment). length s.rows ≤ c.loop-row.row) c.segment-segment.ensures (omega arith) in
+    c.loop-row.invariant
+    ∙ ap₂ (λ (l : List Bool) (rs : List Row). c.args.hashes.now.items ++ map (λ (r : Row). id_hash r.id) (selected l rs))
+    (take_all c.loop-row.row live (omega (arith, past, c.live-live.ensures.long))) (take_all c.loop-row.row rows past)

@@ -1,3 +1,4 @@
+use Rattle.cat_commits.proofs.reading.Parts.{leaf_there}
 use Rattle.std.proofs.Common.{◌≡◌, ◌≢◌, Some, None}
 use Rattle.cat_base.specs.declared.refusal.Refusal.{Refusal}
 use Rattle.cat_base.specs.declared.refusal.Refusal.TheVariants.{Damaged, Memory}
@@ -5,7 +6,7 @@ use Rattle.cat_directory.specs.declared.name.FileName.TheVariants as file
 use Rattle.cat_model.specs.View as model
 use Rattle.cat_ledger_laws.specs.model.Opening.{IsLeafOf}
 use Rattle.cat_commits.specs.reading.Told.{Tells}
-use Rattle.cat_commits.proofs.reading.Reading.{not_ok, passed}
+use Rattle.cat_commits.proofs.reading.Reading.{not_ok, passed, any_fault}
 use Rattle.cat_commits.proofs.Frames.{fails_on}
 use Rattle.cat_commits.proofs.reading.leaf.read_leaf.Goals as goal
 
@@ -29,3 +30,13 @@ returns-clause-frame g c = c.in_ok-segment.ensures.frame
 
 pub returns-clause-fails : goal.returns-clause-fails
 returns-clause-fails g c = record { device = tt; counted = c.in_ok-segment.ensures.fails.counted }
+
+pub returns-in_err-segment-2-clause-due : goal.returns-in_err-segment-2-clause-due
+returns-in_err-segment-2-clause-due g c =
+    any_fault (λ (e : Refusal). e ≡ Memory → g.S.Holder.bytes c.args.shelf.now (file.Segment c.args.listed.number) ≢ Some None) _
+    (λ e is. leaf_there (g.S.Holder.bytes c.args.shelf.now) c.args.schema.now c.args.listed (record { segment = c.in_ok-segment.segment; live = c.in_ok-segment.live }) c.in_ok-segment.ensures.ok)
+
+pub returns-in_err-live-clause-due : goal.returns-in_err-live-clause-due
+returns-in_err-live-clause-due g c =
+    any_fault (λ (e : Refusal). e ≡ Memory → g.S.Holder.bytes c.args.shelf.now (file.Segment c.args.listed.number) ≢ Some None) _
+    (λ e is. leaf_there (g.S.Holder.bytes c.args.shelf.now) c.args.schema.now c.args.listed (record { segment = c.in_ok-segment.segment; live = c.in_ok-segment.live }) c.in_ok-segment.ensures.ok)

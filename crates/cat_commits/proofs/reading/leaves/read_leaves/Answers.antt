@@ -1,4 +1,5 @@
-use Rattle.std.proofs.Common.{◌≡◌, ◌≢◌, ◌<◌, List, Some, None, length, sym, subst, rules}
+use Rattle.std.proofs.lemmas.List.{take_all}
+use Rattle.std.proofs.Common.{◌≡◌, ◌≢◌, ◌<◌, List, Some, None, length, sym, subst, rules, ◌∙◌, arith}
 use Rattle.std.specs.List.{HoldsAt}
 use Rattle.cat_base.specs.declared.refusal.Refusal.{Refusal}
 use Rattle.cat_base.specs.declared.refusal.Refusal.TheVariants.{Damaged, Memory}
@@ -8,7 +9,7 @@ use Rattle.cat_model.specs.View as model
 use Rattle.cat_ledger_laws.specs.model.Opening.{IsLeafOf, AreLeavesOf}
 use Rattle.cat_ledger_laws.specs.shape.OpeningLaws.{MayHold}
 use Rattle.cat_commits.specs.reading.Told.{Tells}
-use Rattle.cat_commits.proofs.reading.Reading.{any_fault, passed}
+use Rattle.cat_commits.proofs.reading.Reading.{any_fault, passed, not_ok}
 use Rattle.cat_commits.proofs.Frames.{fails_after, fails_on, reads_on, told_before}
 use Rattle.cat_commits.proofs.reading.Parts.{first_there, leaf_refuted, leaf_there, leaves_next}
 use Rattle.cat_commits.proofs.reading.leaves.read_leaves.Goals as goal
@@ -44,7 +45,7 @@ loop-segment-preserved g c = record {
       c.loop-segment-test.true (told_before c.loop-segment.invariant.frame)
       (subst (λ (x : ListedSegment). IsLeafOf (MayHold (g.S.Holder.bytes c.loop-segment.shelf)) c.args.schema.now x c.in_ok-leaf.leaf) c.segment-item.is c.in_ok-leaf.ensures.ok) c.loop-segment.invariant.read c.in_ok-push.ensures.items;
   frame = reads_on c.loop-segment.invariant.frame c.in_ok-leaf.ensures.frame;
-  count = search rules;
+  count = c.in_ok-leaf.ensures.fails.counted ∙ c.loop-segment.invariant.count;
 }
 
 pub returns-in_err-leaf-clause-fails : goal.returns-in_err-leaf-clause-fails
@@ -61,3 +62,11 @@ returns-clause-frame g c = c.loop-segment.invariant.frame
 
 pub returns-clause-fails : goal.returns-clause-fails
 returns-clause-fails g c = record { device = tt; counted = c.loop-segment.invariant.count }
+
+pub returns-in_err-leaf-clause-ok : goal.returns-in_err-leaf-clause-ok
+returns-in_err-leaf-clause-ok g c = not_ok (λ v. AreLeavesOf (MayHold (g.S.Holder.bytes c.args.shelf.now)) c.args.schema.now c.args.listed.now v.items) _ _ c.from_residual.ensures
+
+pub returns-clause-ok : goal.returns-clause-ok
+returns-clause-ok g c =
+    subst (λ (l : List ListedSegment). AreLeavesOf (MayHold (g.S.Holder.bytes c.args.shelf.now)) c.args.schema.now l c.loop-segment.leaves.items)
+    (take_all c.loop-segment.segment-index c.args.listed.now (omega arith)) c.loop-segment.invariant.read

@@ -1,12 +1,14 @@
-use Rattle.std.proofs.Common.{◌≡◌, true, false, rules}
+use Rattle.cat_directory.specs.declared.name.FileName.TheVariants as file
+use Rattle.cat_ledger_laws.specs.shape.OpeningLaws.{MayHold}
+use Rattle.std.proofs.Common.{◌≡◌, true, false, rules, ◌≢◌, Some, None, ◌∙◌}
 use Rattle.cat_base.specs.declared.refusal.Refusal.{Refusal}
-use Rattle.cat_base.specs.declared.refusal.Refusal.TheVariants.{Damaged}
+use Rattle.cat_base.specs.declared.refusal.Refusal.TheVariants.{Damaged, Device, Kind, Memory}
 use Rattle.cat_ledger_laws.specs.model.Opening.{Restored, IsRestored, IsForeign}
 use Rattle.cat_ledger_laws.specs.shape.Ties.{ToldFiles}
 use Rattle.cat_commits.specs.reading.Told.{Tells}
-use Rattle.cat_commits.proofs.reading.Reading.{passed}
-use Rattle.cat_commits.proofs.Frames.{told_before}
-use Rattle.cat_commits.proofs.reading.Parts.{not_restored, not_foreign, restored_is, other_leaves, told_leaves, listed_leaves}
+use Rattle.cat_commits.proofs.reading.Reading.{passed, any_fault, not_ok}
+use Rattle.cat_commits.proofs.Frames.{told_before, no_kind, reads_on}
+use Rattle.cat_commits.proofs.reading.Parts.{not_restored, not_foreign, restored_is, other_leaves, told_leaves, listed_leaves, not_absent}
 use Rattle.cat_commits.proofs.reading.restored.read_commit.Goals as goal
 
 pub returns-in_err-commit-clause-damaged : goal.returns-in_err-commit-clause-damaged
@@ -60,3 +62,90 @@ returns-clause-ok g c =
     (listed_leaves told (g.S.Holder.bytes c.read_own.new.shelf) c.args.schema.now c.in_ok-commit.commit.segments c.listed.result.now c.in_ok-leaves.leaves.items
     (told_before c.in_ok-commit.ensures.frame) c.listed.ensures c.in_ok-leaves.ensures.ok)
     c.deref.ensures.value (c.in_ok-well.ensures.0 (search rules))
+
+pub returns-in_err-commit-clause-ok : goal.returns-in_err-commit-clause-ok
+returns-in_err-commit-clause-ok g c = not_ok (IsRestored (MayHold (g.S.Holder.bytes c.args.shelf.now)) c.args.schema.now c.args.generation) _ _ c.from_residual.ensures
+
+pub returns-in_err-commit-clause-foreign : goal.returns-in_err-commit-clause-foreign
+returns-in_err-commit-clause-foreign g c =
+    passed (λ (e : Refusal). e ≡ Kind → IsForeign (MayHold (g.S.Holder.bytes c.args.shelf.now)) c.args.schema.now c.args.generation) _ _ c.from_residual.ensures
+    (no_kind _ _ _ _ c.in_err-commit.ensures.fails.counted)
+
+pub returns-in_err-commit-clause-due : goal.returns-in_err-commit-clause-due
+returns-in_err-commit-clause-due g c =
+    passed (λ (e : Refusal). e ≡ Memory → g.S.Holder.bytes c.args.shelf.now (file.Commit c.args.generation) ≢ Some None) _ _ c.from_residual.ensures c.in_err-commit.ensures.due
+
+pub returns-in_err-commit-clause-device : goal.returns-in_err-commit-clause-device
+returns-in_err-commit-clause-device g c =
+    passed (λ (e : Refusal). e ≡ Device → g.S.Holder.can_fail c.args.shelf.now) _ _ c.from_residual.ensures c.in_err-commit.ensures.fails.device
+
+pub returns-in_err-commit-clause-frame : goal.returns-in_err-commit-clause-frame
+returns-in_err-commit-clause-frame g c = c.in_err-commit.ensures.frame
+
+pub returns-then-not-is_under-clause-damaged : goal.returns-then-not-is_under-clause-damaged
+returns-then-not-is_under-clause-damaged g c = λ is r k. absurd (let no : Kind ≡ Damaged = is in cc)
+
+pub returns-then-not-is_under-clause-own : goal.returns-then-not-is_under-clause-own
+returns-then-not-is_under-clause-own g c = λ is k. absurd (let no : Kind ≡ Damaged = is in cc)
+
+pub returns-then-not-is_under-clause-due : goal.returns-then-not-is_under-clause-due
+returns-then-not-is_under-clause-due g c = λ is. absurd (let no : Kind ≡ Memory = is in cc)
+
+pub returns-then-not-is_under-clause-device : goal.returns-then-not-is_under-clause-device
+returns-then-not-is_under-clause-device g c = λ is. absurd (let no : Kind ≡ Device = is in cc)
+
+pub returns-then-not-is_under-clause-frame : goal.returns-then-not-is_under-clause-frame
+returns-then-not-is_under-clause-frame g c = c.in_ok-commit.ensures.frame
+
+pub returns-then-not-is_under-clause-counted : goal.returns-then-not-is_under-clause-counted
+returns-then-not-is_under-clause-counted g c = c.in_ok-commit.ensures.fails.counted
+
+pub returns-in_err-leaves-clause-ok : goal.returns-in_err-leaves-clause-ok
+returns-in_err-leaves-clause-ok g c = not_ok (IsRestored (MayHold (g.S.Holder.bytes c.args.shelf.now)) c.args.schema.now c.args.generation) _ _ c.from_residual-in_err-leaves.ensures
+
+pub returns-in_err-leaves-clause-foreign : goal.returns-in_err-leaves-clause-foreign
+returns-in_err-leaves-clause-foreign g c =
+    passed (λ (e : Refusal). e ≡ Kind → IsForeign (MayHold (g.S.Holder.bytes c.args.shelf.now)) c.args.schema.now c.args.generation) _ _ c.from_residual-in_err-leaves.ensures
+    (no_kind _ _ _ _ c.in_err-leaves.ensures.fails.counted)
+
+pub returns-in_err-leaves-clause-due : goal.returns-in_err-leaves-clause-due
+returns-in_err-leaves-clause-due g c =
+    passed (λ (e : Refusal). e ≡ Memory → g.S.Holder.bytes c.args.shelf.now (file.Commit c.args.generation) ≢ Some None) _ _ c.from_residual-in_err-leaves.ensures
+    (λ is. not_absent (g.S.Holder.bytes c.args.shelf.now (file.Commit c.args.generation)) c.in_ok-commit.ensures.ok.bytes c.in_ok-commit.ensures.ok.there)
+
+pub returns-in_err-leaves-clause-device : goal.returns-in_err-leaves-clause-device
+returns-in_err-leaves-clause-device g c =
+    passed (λ (e : Refusal). e ≡ Device → g.S.Holder.can_fail c.args.shelf.now) _ _ c.from_residual-in_err-leaves.ensures
+    (λ is. c.in_ok-commit.ensures.frame.can (c.in_err-leaves.ensures.fails.device is))
+
+pub returns-in_err-leaves-clause-frame : goal.returns-in_err-leaves-clause-frame
+returns-in_err-leaves-clause-frame g c = reads_on c.in_ok-commit.ensures.frame c.in_err-leaves.ensures.frame
+
+pub returns-in_err-well-clause-due : goal.returns-in_err-well-clause-due
+returns-in_err-well-clause-due g c =
+    any_fault (λ (e : Refusal). e ≡ Memory → g.S.Holder.bytes c.args.shelf.now (file.Commit c.args.generation) ≢ Some None) _
+    (λ e is. not_absent (g.S.Holder.bytes c.args.shelf.now (file.Commit c.args.generation)) c.in_ok-commit.ensures.ok.bytes c.in_ok-commit.ensures.ok.there)
+
+pub returns-in_err-well-clause-frame : goal.returns-in_err-well-clause-frame
+returns-in_err-well-clause-frame g c = reads_on c.in_ok-commit.ensures.frame c.in_ok-leaves.ensures.frame
+
+pub returns-then-not-well-clause-foreign : goal.returns-then-not-well-clause-foreign
+returns-then-not-well-clause-foreign g c = λ is. absurd (let no : Damaged ≡ Kind = is in cc)
+
+pub returns-then-not-well-clause-due : goal.returns-then-not-well-clause-due
+returns-then-not-well-clause-due g c = λ is. absurd (let no : Damaged ≡ Memory = is in cc)
+
+pub returns-then-not-well-clause-device : goal.returns-then-not-well-clause-device
+returns-then-not-well-clause-device g c = λ is. absurd (let no : Damaged ≡ Device = is in cc)
+
+pub returns-then-not-well-clause-frame : goal.returns-then-not-well-clause-frame
+returns-then-not-well-clause-frame g c = reads_on c.in_ok-commit.ensures.frame c.in_ok-leaves.ensures.frame
+
+pub returns-then-not-well-clause-counted : goal.returns-then-not-well-clause-counted
+returns-then-not-well-clause-counted g c = c.in_ok-leaves.ensures.fails.counted ∙ c.in_ok-commit.ensures.fails.counted
+
+pub returns-clause-frame : goal.returns-clause-frame
+returns-clause-frame g c = reads_on c.in_ok-commit.ensures.frame c.in_ok-leaves.ensures.frame
+
+pub returns-clause-counted : goal.returns-clause-counted
+returns-clause-counted g c = c.in_ok-leaves.ensures.fails.counted ∙ c.in_ok-commit.ensures.fails.counted

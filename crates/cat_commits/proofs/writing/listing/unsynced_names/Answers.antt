@@ -1,7 +1,8 @@
-use Rattle.std.proofs.Common.{◌≡◌, List, ◌++◌, is_some, ap, ap₂, ◌∙◌}
+use Rattle.std.proofs.lemmas.List.{take_all}
+use Rattle.std.proofs.Common.{◌≡◌, List, ◌++◌, is_some, ap, ap₂, ◌∙◌, arith}
 use Rattle.cat_model.specs.Files.{Name}
 use Rattle.cat_commits.specs.writing.Entries.{index_of}
-use Rattle.cat_commits.specs.writing.Unsynced.{is_listed, new_live_of, unsynced_segment, unsynced_of}
+use Rattle.cat_commits.specs.writing.Unsynced.{is_listed, new_live_of, unsynced_segment, unsynced_of, unsynced_in}
 use Rattle.cat_commits.proofs.writing.Lists.{flat_map_more, listed_is}
 use Rattle.cat_commits.proofs.writing.listing.unsynced_names.Goals as goal
 
@@ -14,3 +15,7 @@ loop-entry-preserved c =
     c.in_ok-push_unsynced.ensures
     ∙ ap₂ (λ (a b : List Name). a ++ b) c.loop-entry.invariant (ap (λ b. unsynced_segment b c.entry-item.result ++ new_live_of c.args.generation c.entry-item.result) there)
     ∙ flat_map_more (unsynced_of c.args.earlier.now c.args.generation) c.args.entries.now c.loop-entry.entry-index c.entry-item.result c.loop-entry-test.true c.entry-item.is
+
+pub returns : goal.returns
+returns c =
+    c.loop-entry.invariant ∙ ap (unsynced_in c.args.earlier.now c.args.generation) (take_all c.loop-entry.entry-index c.args.entries.now (omega arith))
