@@ -23,6 +23,7 @@ pub(crate) fn flush<D: Directory>(core: &mut Core, device: &mut D) -> Result<(),
     ensures made { OnOk result (HasFlushed (D.bytes device.old) core.old (D.bytes device.new) core.new) }
     ensures may { OnOk result (MayNotFlush core.old → ⊥) }
     ensures flushed { OnOk result (core.new.buffered ≡ []) }
+    ensures schema { core.new.schema ≡ core.old.schema }
     ensures views { core.new.views ≡ core.old.views }
     ensures holds { core.new.holds ≡ core.old.holds }
     ensures count { core.new.count ≡ core.old.count }
@@ -68,8 +69,5 @@ pub(crate) fn make_room<D: Directory>(core: &mut Core, device: &mut D) -> Result
     if !core.is_due() {
         return Ok(());
     }
-    if let Err(refusal) = core.flush(device) {
-        return Err(refusal);
-    }
-    Ok(())
+    flush(core, device)
 }
