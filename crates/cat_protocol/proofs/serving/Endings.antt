@@ -11,13 +11,13 @@ use Rattle.cat_model.specs.Input.{HaveCome, ended_lines, lines_of}
 use Rattle.cat_protocol.specs.declared.sending.pieces.WriteFault.{WriteFault}
 use Rattle.cat_protocol.proofs.sending.Written.{front_whole}
 use Rattle.cat_protocol.specs.serving.Machine.{short_line, opened_text, Steps}
-use Rattle.cat_protocol.specs.serving.Serving.{Says, SaysAll, SaysUpTo, LinesEnd, ServesLines, IsRefusedAs, LeadsTo, RefusedAt, StandsFrom, ended_as, ended_of}
+use Rattle.cat_protocol.specs.serving.Serving.{Says, SaysAll, SaysUpTo, LinesEnd, ServesLines, IsRefusedAs, IsFlushed, LeadsTo, RefusedAt, StandsFrom, ended_as, ended_of}
 use Rattle.cat_protocol.specs.declared.serving.machine.Stage.{Stage}
 use Rattle.cat_protocol.specs.declared.serving.machine.Stage.TheVariants.{Waiting, Refused, Open}
 use Rattle.cat_protocol.specs.declared.serving.machine.Unopened.{Unopened}
 use Rattle.cat_protocol.specs.declared.serving.serving.ServeFault.{ServeFault}
 use Rattle.cat_protocol.specs.declared.serving.serving.ServeFault.TheVariants as fault
-use Rattle.cat_protocol.proofs.serving.Steps.{Lines, all_append, all_of_one, none_before, serves_kept}
+use Rattle.cat_protocol.proofs.serving.Steps.{Lines, all_append, all_of_one, none_before, serves_kept, serves_then, serves_with}
 
 -- a front of the images of a list is the images of a front
 record SplitAs {A B : Type 0} (f : A → B) (xs : List A) (front : List B) : Type 0 where
@@ -184,6 +184,14 @@ module _ {M S : Type 0} (opens : S → Option Text → Result M (Unopened S) →
     pub ends_flushed : IsAtEnd left → (b : Stage M S) (o p q : Option Text) (f : Result (Unit {0}) WriteFault) (r : Result (Unit {0}) ServeFault) → r ≡ ended_of f
         → ServesLines says (Waiting s) (map short_line (lines_of bytes)) b o p (Ok tt) → Keeps p q → ends b o q r
     ends_flushed at_end b o p q f r same so kept = subst (ends b o q) (sym same) (ends_last_by at_end b o q f (serves_kept so kept))
+
+    -- the end of the input, behind the lines that had ended, and what was written was handed on so
+    pub ends_handed_on : IsAtEnd left → (a b : Stage M S) (ls ms : Lines) (n o p q : Option Text) (e r : Result (Unit {0}) ServeFault)
+        → ServesLines says (Waiting s) ls a n o (Ok tt) → ServesLines says a ms b o p e → IsFlushed e p q r → ls ++ ms ≡ map short_line (lines_of bytes) → ends b n q r
+    ends_handed_on at_end a b ls ms n o p q (Ok u) r so last flushed whole =
+        ends_flushed at_end b n p q flushed.0 r flushed.2 (serves_then so last whole) flushed.1
+    ends_handed_on at_end a b ls ms n o p q (Err f) r so last flushed whole =
+        subst (λ x. ends b n x r) flushed.0 (ends_at (lines_of bytes) (HaveCome.at_end at_end) b n p f r flushed.1 (serves_with (sym flushed.1) (serves_then so last whole)))
 
     -- a buffer is refused before any line has come
     pub ends_unbuffered : bytes ≡ [] → (o p : Option Text) (f : ServeFault) → IsRefusedAs o p (refused_text Memory) f → ends (Waiting s) o p (Err f)

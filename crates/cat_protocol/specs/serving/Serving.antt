@@ -122,6 +122,20 @@ pub record ServesLines {M S : Type 0} (says : Stage M S → Option Text → Text
     (result : Result (Unit {0}) ServeFault) : Type 0 where
   pub ends : LinesEnd says old lines new before after result
 
+-- what was written is handed on, which may fail, unless serving had ended early
+abbrev pub IsFlushed : Result (Unit {0}) ServeFault → (went after : Option Text) → Result (Unit {0}) ServeFault → Type 0
+IsFlushed (Ok u) went after result = (sent : Result (Unit {0}) WriteFault) × Keeps went after × (result ≡ ended_of sent)
+IsFlushed (Err f) went after result = (went ≡ after) × (result ≡ Err f)
+
+-- the lines are served so, and what was written is handed on
+pub record ServesFlushed {M S : Type 0} (says : Stage M S → Option Text → Text → Stage M S → Type 0)
+    (old : Stage M S) (lines : List (Option Text)) (new : Stage M S) (before after : Option Text)
+    (result : Result (Unit {0}) ServeFault) : Type 0 where
+  pub went : Option Text
+  pub ended : Result (Unit {0}) ServeFault
+  pub serves : ServesLines says old lines new before went ended
+  pub flushed : IsFlushed ended went after result
+
 -- what is left to be served where the input ends: a line that no line feed ended, and for the first line also an empty
 -- one
 abbrev pub last_lines : {M S : Type 0} → Stage M S → Text → List Text

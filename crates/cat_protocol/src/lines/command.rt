@@ -1,5 +1,5 @@
 //! Commands, and the texts that spell them.
-ghost use Rattle.std.specs.Prelude.{codes, ◌∷◌, ◌++◌};
+ghost use Rattle.std.specs.Prelude.{codes, ◌≢◌, ◌∷◌, ◌++◌};
 ghost use Rattle.cat_protocol.specs.lines.Line.{said_of, SpellsOrNot};
 ghost use Rattle.cat_protocol.specs.lines.Words.{HasNoSpace};
 
@@ -9,7 +9,7 @@ use crate::lines::words::{split_number, split_word};
 use cat_base::{Generation, Token, parse_number};
 
 /// A command with its arguments as they came: no item, id, query or text of a commit has been looked at.
-#[derive(Clone, Copy, Debug, PartialEq, Eq)]
+#[derive(Clone, Copy)]
 pub enum Command<'a> {
     /// The line has a session and no form.
     NoForm,
@@ -81,6 +81,17 @@ impl<'a> Command<'a> {
             "PUT" => Command::Put(rest),
             "DEL" => Command::Delete(rest),
             "DELW" => Command::DeleteWhere(rest),
+            _ => Command::not_writing(name, rest),
+        }
+    }
+
+    /// The same for a name that no write has.
+    fn not_writing(name: &'a str, rest: &'a str) -> Command<'a>
+        requires one_word { HasNoSpace name.now }
+        requires others { (name.now ≢ codes "PUT") × (name.now ≢ codes "DEL") × (name.now ≢ codes "DELW") }
+        ensures { SpellsOrNot (name.now ++ 32 ∷ rest.now) (said_of result) }
+    {
+        match name {
             "OPEN" => Command::open_at(rest),
             "CLOSE" => Command::close(rest),
             "FIND" => Command::find(rest),

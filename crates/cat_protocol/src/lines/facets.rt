@@ -7,7 +7,7 @@ use crate::lines::words::{split_name, split_number};
 use cat_base::Token;
 
 /// What a FACETS asks for, as it came (Lucene: the arguments of `Facets.getTopChildren`, and the query).
-#[derive(Clone, Copy, Debug, PartialEq, Eq)]
+#[derive(Clone, Copy)]
 pub struct Facets<'a> {
     pub token: Token,
     /// A name that has the form of a field's; whether the schema has the field isn't looked at.

@@ -11,7 +11,7 @@ use cat_base::{Token, WriteNo};
 use cat_facets::cat_search::Sort;
 
 /// What a FIND asks for, as it came (Lucene: the arguments of `IndexSearcher.searchAfter`).
-#[derive(Clone, Copy, Debug, PartialEq, Eq)]
+#[derive(Clone, Copy)]
 pub struct Find<'a> {
     pub token: Token,
     /// The most hits that are to be shown; more may be said than may be asked for.

@@ -10,7 +10,7 @@ use crate::lines::words::split_word;
 use cat_base::{LAST_SESSION, Refusal, SessionNo, parse_number};
 
 /// A line that shows a session.
-#[derive(Clone, Copy, Debug, PartialEq, Eq)]
+#[derive(Clone, Copy)]
 pub struct Line<'a> {
     pub session: SessionNo,
     pub command: Command<'a>,

@@ -9,7 +9,7 @@ use cat_base::{
 };
 
 /// What a schema line says.
-#[derive(Clone, Copy, Debug, PartialEq, Eq)]
+#[derive(Clone, Copy)]
 pub struct SchemaLine<'a> {
     /// How many segments of one level are merged at once, 2 to 100: the merge factor of Lucene's `LogMergePolicy`.
     pub factor: u32,

@@ -9,6 +9,22 @@ use crate::lines::words::split_word;
 use cat_facets::cat_search::Sort;
 use cat_facets::cat_search::cat_items::has_name_form;
 
+/// The sort that the name spells behind `+`.
+fn rising(name: &str) -> Option<Sort<'_>>
+    ensures found { IfSome result (λ sort. IsSort (sort_of sort) × (43 ∷ name.now ≡ sort_text (sort_of sort))) }
+    ensures none { IfNone result ((sort : model.Sort) → IsSort sort → 43 ∷ name.now ≡ sort_text sort → ⊥) }
+{
+    has_name_form(name).then_some(Sort::Rising(name))
+}
+
+/// The sort that the name spells behind `-`.
+fn falling(name: &str) -> Option<Sort<'_>>
+    ensures found { IfSome result (λ sort. IsSort (sort_of sort) × (45 ∷ name.now ≡ sort_text (sort_of sort))) }
+    ensures none { IfNone result ((sort : model.Sort) → IsSort sort → 45 ∷ name.now ≡ sort_text sort → ⊥) }
+{
+    has_name_form(name).then_some(Sort::Falling(name))
+}
+
 /// The sort that the word spells: `.` for the order of addition, or `+` or `-` and a name that has the form of a field's.
 /// Whether the schema has the field isn't looked at.
 fn spelled_sort(word: &str) -> Option<Sort<'_>>
@@ -19,10 +35,10 @@ fn spelled_sort(word: &str) -> Option<Sort<'_>>
         return Some(Sort::Added);
     }
     if let Some(name) = word.strip_prefix('+') {
-        return has_name_form(name).then_some(Sort::Rising(name));
+        return rising(name);
     }
     let name = word.strip_prefix('-')?;
-    has_name_form(name).then_some(Sort::Falling(name))
+    falling(name)
 }
 
 /// A sort, and the text behind the space that ends it.

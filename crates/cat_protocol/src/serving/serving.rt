@@ -5,7 +5,7 @@ ghost use Rattle.cat_model.specs.Served.{refused_text, ServesBy};
 ghost use Rattle.cat_protocol.specs.declared.serving.machine.Stage.TheVariants.{Waiting, Open};
 ghost use Rattle.cat_protocol.specs.serving.Machine.{short_line, stands_open};
 ghost use Rattle.cat_protocol.specs.serving.Serving.{Comes, IsReady, IsRefusedAs, Says, ServesLines, came_by, ended_as, ended_of, last_lines};
-ghost use Rattle.cat_protocol.specs.serving.Serving.{LeadsTo, RefusedAt, StandsFrom};
+ghost use Rattle.cat_protocol.specs.serving.Serving.{LeadsTo, RefusedAt, ServesFlushed, StandsFrom};
 
 use crate::sending::{WriteFault, flush, send_opened, send_refused};
 use crate::serving::input::{MAX_GATHERED, gather, if_short, split_line, without_return};
@@ -264,6 +264,30 @@ fn serve_last<M: Machine, W: Write>(
     serve_line(alloc, stage, gathered, to)
 }
 
+/// Answers so what is left at the end of the input, and hands on what the writer holds back.
+fn serve_end<M: Machine, W: Write>(
+    alloc: Global,
+    stage: Stage<M, M::Seed>,
+    gathered: &[u8],
+    to: &mut W,
+) -> Served<M, M::Seed>
+    requires ready { IsReady stage }
+    ensures { ServesFlushed (Says M.opens M.step M.token) stage (map short_line (last_lines stage gathered.now))
+        result.stage (W.contents to.old) (W.contents to.new) result.ended }
+{
+    let served = serve_last(alloc, stage, gathered, to);
+    match served.ended {
+        Ok(()) => {
+            let ended = as_ended(flush(to));
+            Served {
+                stage: served.stage,
+                ended,
+            }
+        }
+        Err(_) => served,
+    }
+}
+
 /// What a call of the reader brought.
 enum Came {
     Bytes(usize),
@@ -333,15 +357,7 @@ fn serve_within<M: Machine, R: Read, W: Write>(
                 stage,
                 ended: Err(ServeFault::Read),
             },
-            Came::End => {
-                let served = serve_last(alloc, stage, gathered.as_slice(), writer);
-                stage = match served.ended {
-                    Ok(()) => served.stage,
-                    Err(_) => return served,
-                };
-                let ended = as_ended(flush(writer));
-                return Served { stage, ended };
-            }
+            Came::End => return serve_end(alloc, stage, gathered.as_slice(), writer),
         }
     }
     Served {

@@ -2,7 +2,7 @@ use Rattle.std.proofs.Common.{codes, true≢false, sym, ◌∙◌, arith}
 use Rattle.std.specs.Prelude.{None, Some}
 use Rattle.std.proofs.lemmas.Slice.Eq.{bytes_eq-Decides}
 use Rattle.std.proofs.lemmas.Str.Pattern.{strip_prefix_char}
-use Rattle.cat_protocol.proofs.lines.WordsSplit.{no_sort, formed_or_none, formed_some, unformed_rising, unformed_falling}
+use Rattle.cat_protocol.proofs.lines.WordsSplit.{no_sort}
 use Rattle.cat_protocol.proofs.lines.sort.spelled_sort.Goals as goal
 
 pub returns-in_err-name-clause-none : goal.returns-in_err-name-clause-none
@@ -14,19 +14,19 @@ returns-in_err-name-clause-none c =
 pub returns-in-Some-clause-found : goal.returns-in-Some-clause-found
 returns-in-Some-clause-found c =
     let spelled = strip_prefix_char 43 c.args.word.now (Some c.in-Some.name) c.in-Some.ensures.cases (omega arith) in
-    formed_some _ c.then_some.result c.has_name_form.result _ c.then_some.ensures (λ formed. (sym c.has_name_form.ensures ∙ formed, spelled))
+    rw spelled c.rising.ensures.found
 
 pub returns-in-Some-clause-none : goal.returns-in-Some-clause-none
 returns-in-Some-clause-none c =
     let spelled = strip_prefix_char 43 c.args.word.now (Some c.in-Some.name) c.in-Some.ensures.cases (omega arith) in
-    formed_or_none _ c.then_some.result c.has_name_form.result _ c.then_some.ensures (λ no. unformed_rising c.args.word.now c.in-Some.name.now spelled (sym c.has_name_form.ensures ∙ no))
+    rw spelled c.rising.ensures.none
 
 pub returns-clause-found : goal.returns-clause-found
 returns-clause-found c =
     let spelled = strip_prefix_char 45 c.args.word.now (Some c.in_ok-name.name) c.in_ok-name.ensures.cases (omega arith) in
-    formed_some _ c.then_some-2.result c.has_name_form-2.result _ c.then_some-2.ensures (λ formed. (sym c.has_name_form-2.ensures ∙ formed, spelled))
+    rw spelled c.falling.ensures.found
 
 pub returns-clause-none : goal.returns-clause-none
 returns-clause-none c =
     let spelled = strip_prefix_char 45 c.args.word.now (Some c.in_ok-name.name) c.in_ok-name.ensures.cases (omega arith) in
-    formed_or_none _ c.then_some-2.result c.has_name_form-2.result _ c.then_some-2.ensures (λ no. unformed_falling c.args.word.now c.in_ok-name.name.now spelled (sym c.has_name_form-2.ensures ∙ no))
+    rw spelled c.falling.ensures.none

@@ -1,10 +1,10 @@
 use Rattle.std.proofs.Common.{[], ◌++◌, length, take, ap, refl, ◌∙◌, arith}
 use Rattle.std.proofs.KnownBytes.{Appends-nil, Consumes-nil, Consumes-trans, Consumes-kept}
-use Rattle.cat_model.specs.Input.{ended_lines, lines_of, HaveCome}
+use Rattle.cat_model.specs.Input.{ended_lines, HaveCome}
 use Rattle.cat_protocol.specs.serving.Serving.{Says}
 use Rattle.cat_protocol.proofs.serving.Cuts.{ended_on, rest_on}
 use Rattle.cat_protocol.proofs.serving.Steps.{last_lines_behind, serves_kept, serves_then, serves_with, where_ok}
-use Rattle.cat_protocol.proofs.serving.Endings.{ends_at, ends_behind, ends_flushed, ends_unread}
+use Rattle.cat_protocol.proofs.serving.Endings.{ends_at, ends_behind, ends_handed_on, ends_unread}
 use Rattle.cat_protocol.proofs.serving.serving.serve_within.Goals as goal
 
 pub returns-then-is_err : goal.returns-then-is_err
@@ -36,20 +36,6 @@ returns-in-Fault g c =
     let read = Consumes-kept _ _ _ so.bytes so.read c.in-Fault.ensures in
     ends_unread m.opens m.step m.token c.args.seed input left so.bytes read (serves_kept so.served c.flush.ensures)
 
-pub returns-in-Err-ended : goal.returns-in-Err-ended
-returns-in-Err-ended g c =
-    let m = g.M.Machine in
-    let input = g.R.Read.remaining c.args.reader.now in
-    let left = g.R.Read.remaining c.read_some.new.reader in
-    let so = c.reads.invariant in
-    let end = c.in-End.ensures in
-    let read = Consumes-kept _ _ _ so.bytes so.read end.0 in
-    let went = serves_kept so.served c.flush.ensures in
-    let gathered = ap (take 10002) c.as_slice.ensures.value ∙ so.gathered in
-    let whole = last_lines_behind (Says m.opens m.step m.token) so.bytes c.as_slice.result.now c.args.seed c.reads.stage _ _ went gathered in
-    let all = serves_then went c.serve_last-served.ensures whole in
-    ends_at m.opens m.step m.token c.args.seed input left so.bytes read (lines_of so.bytes) (HaveCome.at_end end.1) c.serve_last-served.result.stage _ _ c.in-Err-ended.field-0 c.serve_last-served.result.ended c.in-Err-ended.is all
-
 pub returns-in-End : goal.returns-in-End
 returns-in-End g c =
     let m = g.M.Machine in
@@ -61,9 +47,8 @@ returns-in-End g c =
     let went = serves_kept so.served c.flush.ensures in
     let gathered = ap (take 10002) c.as_slice.ensures.value ∙ so.gathered in
     let whole = last_lines_behind (Says m.opens m.step m.token) so.bytes c.as_slice.result.now c.args.seed c.reads.stage _ _ went gathered in
-    let all = serves_then went (serves_with c.in-Ok-ended.is c.serve_last-served.ensures) whole in
-    ends_flushed m.opens m.step m.token c.args.seed input left so.bytes read end.1 c.serve_last-served.result.stage _ _ _ c.flush-in-End.result c.as_ended-ended.result c.as_ended-ended.ensures
-    all c.flush-in-End.ensures
+    let last = c.serve_end.ensures in
+    ends_handed_on m.opens m.step m.token c.args.seed input left so.bytes read end.1 c.reads.stage c.serve_end.result.stage _ _ _ _ last.went _ last.ended c.serve_end.result.ended went last.serves last.flushed whole
 
 pub reads-preserved : goal.reads-preserved
 reads-preserved g c =
