@@ -11,7 +11,7 @@ use Rattle.cat_model.specs.Lines.{Said}
 use Rattle.cat_commands.specs.cat_ledger.Answering.{number_reply}
 use Rattle.cat_commands.specs.cat_ledger.Ledgers.{device_in, shape_in}
 use Rattle.cat_commands.specs.cat_protocol.replies.Reply.{reply_of}
-use Rattle.cat_service.proofs.Arms.{as_answer, commit_does, plain_does, refresh_does, refused_as}
+use Rattle.cat_service.proofs.Arms.{as_answer, plain_does, refused_as}
 use Rattle.cat_service.proofs.Kept.{world_stays}
 use Rattle.cat_service.proofs.Wanted.{prune_wants, snap_wants, unsnap_wants}
 use Rattle.cat_service.proofs.world.World.answer.Goals as goal
@@ -135,39 +135,29 @@ returns-in-Stat-clause-does g c = rw c.in-Stat.is c.answer_chore-in-Stat.ensures
 pub returns-in-Stat-clause-history : goal.returns-in-Stat-clause-history
 returns-in-Stat-clause-history g c = rw c.in-Stat.is c.answer_chore-in-Stat.ensures.history
 
-pub invariant_of-self : goal.invariant_of-self
-invariant_of-self g c =
-    world_stays g.D.Holder.bytes 0 Said.refresh c.self.inside.ledger (number_reply c.refresh.result) c.refresh.new.self c.self.invariant (c.refresh.ensures.answers 0)
-
 pub returns-in-Refresh-clause-does : goal.returns-in-Refresh-clause-does
-returns-in-Refresh-clause-does g c = rw (c.in-Refresh.is, ← c.self.view_is) (
-    refresh_does g.D.Holder.bytes g.D.Holder.can_fail g.D.Holder.fault_count c.args.line.now.session c.self.inside.ledger c.refresh.new.self c.refresh.result (reply_of c.number_told.result) c.number_told.ensures c.self.invariant (c.refresh.ensures.answers c.args.line.now.session) c.refresh.ensures.fails c.refresh.ensures.goes.policy c.refresh.ensures.stays c.refresh.ensures.spent c.refresh.ensures.full c.refresh.ensures.due)
+returns-in-Refresh-clause-does g c = rw c.in-Refresh.is (c.answer_refresh.ensures.does c.args.line.now.session)
 
 pub returns-in-Refresh-clause-history : goal.returns-in-Refresh-clause-history
-returns-in-Refresh-clause-history g c = rw (c.in-Refresh.is, ← c.self.view_is) c.refresh.ensures.goes.history
-
-pub invariant_of-self-in-Commit : goal.invariant_of-self-in-Commit
-invariant_of-self-in-Commit g c =
-    world_stays g.D.Holder.bytes 0 (Said.commit c.in-Commit.text.now) c.self-in-Commit.inside.ledger (number_reply c.commit.result) c.commit.new.self c.self-in-Commit.invariant (c.commit.ensures.answers 0)
+returns-in-Refresh-clause-history g c = rw c.in-Refresh.is c.answer_refresh.ensures.history
 
 pub returns-in-Commit-clause-does : goal.returns-in-Commit-clause-does
-returns-in-Commit-clause-does g c = rw (c.in-Commit.is, ← c.self-in-Commit.view_is) (
-    commit_does g.D.Holder.bytes g.D.Holder.can_fail g.D.Holder.fault_count c.args.line.now.session c.self-in-Commit.inside.ledger c.commit.new.self c.commit.result (reply_of c.number_told-in-Commit.result) c.number_told-in-Commit.ensures c.self-in-Commit.invariant g.D.Holder.may_leave c.in-Commit.text.now (c.commit.ensures.answers c.args.line.now.session) c.commit.ensures.fails c.commit.ensures.policy c.commit.ensures.stays c.commit.ensures.wrong c.commit.ensures.none c.commit.ensures.spent c.commit.ensures.due c.commit.ensures.history)
+returns-in-Commit-clause-does g c = rw c.in-Commit.is (c.answer_commit.ensures.does c.args.line.now.session)
 
 pub returns-in-Commit-clause-history : goal.returns-in-Commit-clause-history
-returns-in-Commit-clause-history g c = rw (c.in-Commit.is, c.number_told-in-Commit.ensures, ← c.self-in-Commit.view_is) c.commit.ensures.history
+returns-in-Commit-clause-history g c = rw c.in-Commit.is c.answer_commit.ensures.history
 
-pub invariant_of-self-in-Snapshot : goal.invariant_of-self-in-Snapshot
-invariant_of-self-in-Snapshot g c =
-    world_stays g.D.Holder.bytes 0 Said.snapshot c.self-in-Snapshot.inside.ledger (number_reply c.snapshot.result) c.snapshot.new.self c.self-in-Snapshot.invariant (c.snapshot.ensures.answers 0)
+pub invariant_of-self : goal.invariant_of-self
+invariant_of-self g c =
+    world_stays g.D.Holder.bytes 0 Said.snapshot c.self.inside.ledger (number_reply c.snapshot.result) c.snapshot.new.self c.self.invariant (c.snapshot.ensures.answers 0)
 
 pub returns-in-Snapshot-clause-does : goal.returns-in-Snapshot-clause-does
-returns-in-Snapshot-clause-does g c = rw (c.in-Snapshot.is, ← c.self-in-Snapshot.view_is) (
-    plain_does g.D.Holder.bytes g.D.Holder.can_fail g.D.Holder.fault_count c.args.line.now.session c.self-in-Snapshot.inside.ledger c.snapshot.new.self c.snapshot.result (reply_of c.number_told-in-Snapshot.result) c.number_told-in-Snapshot.ensures c.self-in-Snapshot.invariant Said.snapshot refl (c.snapshot.ensures.answers c.args.line.now.session) (c.snapshot.ensures.same, c.snapshot.ensures.err) c.snapshot.ensures.goes.policy
-    (λ k. snap_wants (g.D.Holder.bytes (device_in c.self-in-Snapshot.inside.ledger)) (shape_in c.self-in-Snapshot.inside.ledger) c.args.line.now.session (as_answer c.snapshot.result) k (refused_as _ c.snapshot.result c.snapshot.ensures.due)))
+returns-in-Snapshot-clause-does g c = rw (c.in-Snapshot.is, ← c.self.view_is) (
+    plain_does g.D.Holder.bytes g.D.Holder.can_fail g.D.Holder.fault_count c.args.line.now.session c.self.inside.ledger c.snapshot.new.self c.snapshot.result (reply_of c.number_told.result) c.number_told.ensures c.self.invariant Said.snapshot refl (c.snapshot.ensures.answers c.args.line.now.session) (c.snapshot.ensures.same, c.snapshot.ensures.err) c.snapshot.ensures.goes.policy
+    (λ k. snap_wants (g.D.Holder.bytes (device_in c.self.inside.ledger)) (shape_in c.self.inside.ledger) c.args.line.now.session (as_answer c.snapshot.result) k (refused_as _ c.snapshot.result c.snapshot.ensures.due)))
 
 pub returns-in-Snapshot-clause-history : goal.returns-in-Snapshot-clause-history
-returns-in-Snapshot-clause-history g c = rw (c.in-Snapshot.is, ← c.self-in-Snapshot.view_is) c.snapshot.ensures.goes.history
+returns-in-Snapshot-clause-history g c = rw (c.in-Snapshot.is, ← c.self.view_is) c.snapshot.ensures.goes.history
 
 pub invariant_of-self-in-Unsnapshot : goal.invariant_of-self-in-Unsnapshot
 invariant_of-self-in-Unsnapshot g c =

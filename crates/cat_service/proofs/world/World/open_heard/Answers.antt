@@ -1,7 +1,7 @@
 use Rattle.std.proofs.Common.{inr, refl}
 use Rattle.cat_model.specs.Served.{Begins}
 use Rattle.cat_service.proofs.Begun.{formless_unasked, opens_caused}
-use Rattle.cat_service.proofs.machine.WorldMachine.open.Goals as goal
+use Rattle.cat_service.proofs.world.World.open_heard.Goals as goal
 
 pub returns-in-None : goal.returns-in-None
 returns-in-None g c =
