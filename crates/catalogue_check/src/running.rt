@@ -1,8 +1,9 @@
 //! Judges the folder that the arguments name, and tells what is found.
-ghost use Rattle.std.specs.Prelude.{◌≡◌, map, option_map, string_bytes};
+ghost use Rattle.std.specs.Prelude.{◌≡◌, Err, Ok, map, option_map, string_bytes};
 ghost use Rattle.std.specs.Process.{exit_status};
 ghost use Rattle.cat_directory.specs.Frames.{OnlyReads};
-ghost use Rattle.catalogue_check.specs.Asked.{task_told};
+ghost use Rattle.catalogue_check.specs.Acts.{CheckAct};
+ghost use Rattle.catalogue_check.specs.Asked.{Asked, task_told};
 ghost use Rattle.catalogue_check.specs.Ended.{status_of};
 ghost use Rattle.catalogue_check.specs.Runs.{ChecksAsked, DropsAt, DropsIn, DropsLocked, EndsJudged, Judges, JudgesAt, JudgesShared, RunsCheck, ShowsFound, checks_asked};
 
@@ -11,9 +12,16 @@ use crate::endings::Ending;
 use crate::news::News;
 use crate::system::System;
 use cat_base::Refusal;
-use cat_check::{check, drop_torn};
+use cat_check::{Checked, check, drop_torn};
 use cat_directory::LockRefusal;
 use std::process::ExitCode;
+
+/// Tells what is found.
+fn show<S: System>(system: &mut S, checked: &Checked)
+    ensures { S.does system.old (CheckAct.found checked.now) system.new }
+{
+    system.show(checked);
+}
 
 /// Checks the folder, and tells what is found.
 fn tell_found<S: AllocGlobal + System>(
@@ -23,9 +31,14 @@ fn tell_found<S: AllocGlobal + System>(
     ensures found { ShowsFound S.does (S.Folder.bytes folder.old) (S.Folder.can_fail folder.old) system.old result system.new }
     ensures frame { OnlyReads S.Folder.bytes S.Folder.may_leave S.Folder.can_fail folder.old folder.new }
 {
-    let checked = check(system.alloc(), folder)?;
-    system.show(&checked);
-    Ok(Ending::of(&checked))
+    match check(system.alloc(), folder) {
+        Ok(checked) => {
+            let ending = Ending::of(&checked);
+            show(system, &checked);
+            Ok(ending)
+        }
+        Err(refusal) => Err(refusal),
+    }
 }
 
 /// Judges the folder, which is left as it is.
@@ -98,6 +111,38 @@ fn drop_at<S: AllocGlobal + System>(system: &mut S, path: &str) -> Result<Ending
     }
 }
 
+/// Drops so in the folder at the path, whose lock is had and kept to the end.
+fn drop_under<S: AllocGlobal + System>(
+    system: &mut S,
+    path: &str,
+    lock: S::Lock,
+) -> Result<Ending, Refusal>
+    ensures { DropsLocked S.does S.Folder.bytes S.Folder.may_leave S.Folder.can_fail path.now (Ok lock) system.old result system.new }
+{
+    let judged = drop_at(system, path);
+    system.unlock(lock);
+    judged
+}
+
+/// Deletes nothing of the folder at the path, whose lock isn't had for that reason. Where a program works over it, it is judged.
+fn drop_nothing<S: AllocGlobal + System>(
+    system: &mut S,
+    path: &str,
+    refusal: LockRefusal,
+) -> Result<Ending, Refusal>
+    ensures { DropsLocked S.does S.Folder.bytes S.Folder.may_leave S.Folder.can_fail path.now (Err refusal) system.old result system.new }
+{
+    match refusal {
+        LockRefusal::InUse => {
+            system.say(News::InUse);
+            system.say(News::NotDropped);
+            judge_at(system, path)
+        }
+        LockRefusal::Device => Err(Refusal::Device),
+        LockRefusal::Memory => Err(Refusal::Memory),
+    }
+}
+
 /// Drops so in the folder at the path, for whose lock who asked was answered so; the lock is kept to the end. Where a program works
 /// over the folder nothing is deleted, and it is judged.
 fn drop_locked<S: AllocGlobal + System>(
@@ -108,18 +153,8 @@ fn drop_locked<S: AllocGlobal + System>(
     ensures { DropsLocked S.does S.Folder.bytes S.Folder.may_leave S.Folder.can_fail path.now answer system.old result system.new }
 {
     match answer {
-        Ok(lock) => {
-            let judged = drop_at(system, path);
-            system.unlock(lock);
-            judged
-        }
-        Err(LockRefusal::InUse) => {
-            system.say(News::InUse);
-            system.say(News::NotDropped);
-            judge_at(system, path)
-        }
-        Err(LockRefusal::Device) => Err(Refusal::Device),
-        Err(LockRefusal::Memory) => Err(Refusal::Memory),
+        Ok(lock) => drop_under(system, path, lock),
+        Err(refusal) => drop_nothing(system, path, refusal),
     }
 }
 
@@ -136,25 +171,40 @@ fn ending_after<S: System>(system: &mut S, judged: Result<Ending, Refusal>) -> E
     }
 }
 
+/// Judges the folder at the path, and says how the program ends.
+fn do_judge<S: AllocGlobal + System>(system: &mut S, path: &str) -> Ending
+    ensures { ChecksAsked S.does S.Folder.bytes S.Folder.may_leave S.Folder.can_fail (Asked.judge path.now) system.old result system.new }
+{
+    let answer = system.share(path);
+    let judged = judge_shared(system, path, answer);
+    ending_after(system, judged)
+}
+
+/// Drops the torn commit of the folder at the path, and says how the program ends.
+fn do_drop<S: AllocGlobal + System>(system: &mut S, path: &str) -> Ending
+    ensures { ChecksAsked S.does S.Folder.bytes S.Folder.may_leave S.Folder.can_fail (Asked.drop_torn path.now) system.old result system.new }
+{
+    let answer = system.lock(path);
+    let judged = drop_locked(system, path, answer);
+    ending_after(system, judged)
+}
+
+/// Says how the program is called.
+fn tell_usage<S: AllocGlobal + System>(system: &mut S) -> Ending
+    ensures { ChecksAsked S.does S.Folder.bytes S.Folder.may_leave S.Folder.can_fail Asked.nothing system.old result system.new }
+{
+    system.say(News::Usage);
+    Ending::Unjudged
+}
+
 /// Does the task.
 fn do_task<S: AllocGlobal + System>(system: &mut S, task: Task<'_>) -> Ending
     ensures { ChecksAsked S.does S.Folder.bytes S.Folder.may_leave S.Folder.can_fail (task_told task.entry) system.old result system.new }
 {
     match task {
-        Task::Judge(path) => {
-            let answer = system.share(path);
-            let judged = judge_shared(system, path, answer);
-            ending_after(system, judged)
-        }
-        Task::DropTorn(path) => {
-            let answer = system.lock(path);
-            let judged = drop_locked(system, path, answer);
-            ending_after(system, judged)
-        }
-        Task::Usage => {
-            system.say(News::Usage);
-            Ending::Unjudged
-        }
+        Task::Judge(path) => do_judge(system, path),
+        Task::DropTorn(path) => do_drop(system, path),
+        Task::Usage => tell_usage(system),
     }
 }
 
