@@ -1,7 +1,7 @@
 """The Rattle kit on this machine: where it is, what it calls itself, and what of this repository it has built.
 
 usage: python3 tests/kit.py
-The status is 0 where `rt ci` has room to keep what it proves.
+The status is 0 where `rt ci` has room to keep what it proves, and proves crates by name.
 """
 
 import hashlib
@@ -146,9 +146,9 @@ def rt():
 
 
 def keeps():
-    """Whether `rt ci` has room to keep what it proves."""
+    """Whether `rt ci` has room to keep what it proves, and proves crates by name, which it refuses where CI says that it is asked for its verdict."""
     kept = rt().Kept([])
-    return bool(kept.at) and kept.has_room()
+    return os.environ.get("CI") != "true" and bool(kept.at) and kept.has_room()
 
 
 class KeptByGate:
