@@ -1,9 +1,10 @@
-use Rattle.std.proofs.Common.{ap, sym, ◌∙◌, ◌++◌, subst, arith}
+use Rattle.std.proofs.Common.{◌≡◌, ℕ, List, length, ap, sym, ◌∙◌, ◌++◌, subst, arith}
 use Rattle.std.proofs.lemmas.List.{take_all}
+use Rattle.std.specs.List.{flat_map}
 use Rattle.std.specs.Prelude.{All, Contains}
 use Rattle.cat_base.specs.Texts.{IsTextSet}
 use Rattle.cat_model.specs.Ordinals.{dictionary_of, text_at, postings_of}
-use Rattle.cat_columns.specs.Merged.{moved}
+use Rattle.cat_columns.specs.Merged.{kept_of, moved}
 use Rattle.cat_columns.specs.inverted.Gathered.{list_of_ordinal}
 use Rattle.cat_columns.specs.declared.inverted.merge.MergeInput as declared
 use Rattle.cat_columns.proofs.inverted.ByOrdinal.{none_listed}
@@ -35,3 +36,24 @@ loop-input-preserved c =
 
 pub returns-clause-sets : goal.returns-clause-sets
 returns-clause-sets c = subst (All (λ (p : declared.MergeInput). All IsTextSet p.terms.now)) (take_all c.loop-input.input-index c.args.inputs.now c.loop-input-test.false) c.loop-input.invariant.sets
+
+pub add_input-requires-clause-few : goal.add_input-requires-clause-few
+add_input-requires-clause-few c = c.requires.few
+
+pub add_input-requires-clause-sorted : goal.add_input-requires-clause-sorted
+add_input-requires-clause-sorted c = c.requires.sorted
+
+pub add_input-requires-clause-count : goal.add_input-requires-clause-count
+add_input-requires-clause-count c = c.loop-input.invariant.count
+
+pub add_input-requires-clause-fits : goal.add_input-requires-clause-fits
+add_input-requires-clause-fits c =
+    subst (λ (p : declared.MergeInput). length p.row_map.now ≡ length p.terms.now) (sym c.input-item.is) (c.requires.fits c.loop-input.input-index c.input-item.result c.loop-input-test.true)
+
+pub returns-clause-count : goal.returns-clause-count
+returns-clause-count c = c.loop-input.invariant.count
+
+pub returns-clause-lists : goal.returns-clause-lists
+returns-clause-lists c = λ o lt.
+    c.loop-input.invariant.lists o lt
+    ∙ ap (λ (ps : List declared.MergeInput). postings_of (text_at c.args.words.now o) (flat_map (λ p. kept_of p.row_map.now p.terms.now) ps)) (take_all c.loop-input.input-index c.args.inputs.now c.loop-input-test.false)

@@ -1,4 +1,5 @@
-use Rattle.std.proofs.Common.{◌≡◌, Bool, List, length, map, arith}
+use Rattle.std.proofs.lemmas.Result.{err_from_is_err_and}
+use Rattle.std.proofs.Common.{◌≡◌, inr, refl, Bool, List, length, map, arith}
 use Rattle.std.specs.List.{range_with_len}
 use Rattle.cat_base.specs.declared.refusal.Refusal.TheVariants.{Memory}
 use Rattle.cat_model.specs.RowSets.{IsPacked}
@@ -15,3 +16,11 @@ pub returns-in_err-blocks-clause-due : goal.returns-in_err-blocks-clause-due
 returns-in_err-blocks-clause-due c =
     let h = packed_rows c.args.len c.args.bytes.now (omega arith) (λ k lt. (c.type_inv.bytes k).fits) (c.is_clear_from.ensures.0 c.if-not-is_clear_from.false) in
     if_err c.from_residual.result (λ e. e ≡ Memory → (set : List Bool) × (length set ≡ c.args.len) × IsPacked c.args.bytes.now set) (λ e is. (map (has_row_bit c.args.bytes.now) (range_with_len 0 c.args.len), h.0, h.1))
+
+pub is_clear_from-requires : goal.is_clear_from-requires
+is_clear_from-requires c = c.if-bytes-len.false
+
+pub returns-in_err-blocks-clause-refusal : goal.returns-in_err-blocks-clause-refusal
+returns-in_err-blocks-clause-refusal c =
+    let p = err_from_is_err_and c.from_residual.result c.from_residual.ensures.1 in
+    rw (p.1, p.2) (inr refl)
