@@ -149,6 +149,10 @@ module _ (mark : Option HitStanding) (ranks : List HitStanding) where
         ap (standings_at mark ranks)
         (filter-append (has_row hits) done (row ∷ []) ∙ ap (λ b. filter (has_row hits) done ++ cond b (row ∷ []) []) e ∙ append-nil (filter (has_row hits) done))
 
+    pub taken_more : (done : List ℕ) (row : ℕ) → taken done ++ taken (row ∷ []) ≡ taken (done ++ row ∷ [])
+    taken_more done row =
+        sym (ap (standings_at mark ranks) (filter-append (has_row hits) done (row ∷ [])) ∙ standings_at-append mark ranks (filter (has_row hits) done) (filter (has_row hits) (row ∷ [])))
+
     module _ (rows : List ℕ) (is : IsOrderedRun ranks rows) (done : List ℕ) (row : ℕ) (rest : List ℕ) (cut : done ++ row ∷ rest ≡ rows) where
       pub row_within : row < length ranks
       row_within = (All-right (λ r. r < length ranks) done (row ∷ rest) (subst (AllByRecursion (λ r. r < length ranks)) (sym cut) (recursion_from_All (λ r. r < length ranks) rows is.within))).0

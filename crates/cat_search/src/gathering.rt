@@ -217,6 +217,44 @@ fn show_listed<'a>(
     Ok(())
 }
 
+/// Shows the hits of a segment from this row on in order of addition, as far as the mark comes before them, until as many are
+/// shown as are wanted.
+fn show_from(
+    alloc: Global,
+    shown: &mut Vec<Entry>,
+    wanted: &Wanted<'_>,
+    segment: &Segment,
+    hits: Hits<'_>,
+    found: usize,
+    from: usize,
+) -> Result<(), AllocError>
+    requires long { length (hit_rows hits) ≡ length segment.now.rows }
+    requires within { from ≤ length segment.now.rows }
+    ensures shown { OnOk result ((standings : List HitStanding) → shown.old.items ≡ take wanted.now.count (map entry_shown standings)
+        → shown.new.items ≡ take wanted.now.count (map entry_shown (standings
+        ++ behind (mark_standing wanted.now.mark) (selected (replicate from false ++ drop from (hit_rows hits.entry)) (map (row_standing Added) segment.now.rows))))) }
+{
+    let ranks = LeafRanks::of(segment, Order::Added);
+    if let Hits::Listed(listed) = &hits {
+        let (rows, live) = listed.parts_from(from);
+        return show_listed(alloc, shown, wanted.count, &ranks, rows, live, &wanted.mark);
+    }
+    if hits.are_met_sooner(found, segment.len(), wanted.count) {
+        return show_tested(
+            alloc,
+            shown,
+            wanted.count,
+            &ranks,
+            &hits,
+            from,
+            &wanted.mark,
+        );
+    }
+    let mut left = hits.into_rows(alloc)?;
+    left.remove_below(from);
+    show_rows(alloc, shown, wanted.count, &ranks, &left, &wanted.mark)
+}
+
 /// Shows the hits of a segment in order of addition, as far as the mark comes before them, until as many are shown as are
 /// wanted. The rows that earlier pages had are passed without a look at each, and a segment that has no others is left out.
 fn show_behind(
@@ -239,25 +277,29 @@ fn show_behind(
     if passed == segment.len() {
         return Ok(());
     }
-    let ranks = LeafRanks::of(segment, Order::Added);
-    if let Hits::Listed(listed) = &hits {
-        let (rows, live) = listed.parts_from(passed);
-        return show_listed(alloc, shown, wanted.count, &ranks, rows, live, &wanted.mark);
-    }
-    if hits.are_met_sooner(found, segment.len(), wanted.count) {
-        return show_tested(
-            alloc,
-            shown,
-            wanted.count,
-            &ranks,
-            &hits,
-            passed,
-            &wanted.mark,
-        );
-    }
-    let mut left = hits.into_rows(alloc)?;
-    left.remove_below(passed);
-    show_rows(alloc, shown, wanted.count, &ranks, &left, &wanted.mark)
+    show_from(alloc, shown, wanted, segment, hits, found, passed)
+}
+
+/// Shows the hits of a leaf in order of addition, as far as the mark comes before them, until as many are shown as are wanted;
+/// how many hits the leaf has.
+fn show_leaf(
+    alloc: Global,
+    shown: &mut Vec<Entry>,
+    wanted: &Wanted<'_>,
+    leaf: &Leaf,
+    query: &Query,
+    set: Option<&DocSet>,
+) -> Result<usize, AllocError>
+    requires { IfSome set (λ s. s.now ≡ map (row_matches (query_of query.now)) leaf.now.segment.rows) }
+    ensures total { IfOk result (λ n. n ≡ length (leaf_hits leaf.now (query_of query.now))) }
+    ensures shown { OnOk result ((standings : List HitStanding) → shown.old.items ≡ take wanted.now.count (map entry_shown standings)
+        → shown.new.items ≡ take wanted.now.count (map entry_shown (standings
+        ++ behind (mark_standing wanted.now.mark) (map (row_standing Added) (leaf_hits leaf.now (query_of query.now)))))) }
+{
+    let hits = hits_of(alloc, query, set, leaf)?;
+    let found = hits.count();
+    show_behind(alloc, shown, wanted, leaf.segment(), hits, found)?;
+    Ok(found)
 }
 
 /// How many of the hits of a leaf are expected to come into a page of so many, where the leaves before it have so many hits, and
@@ -415,10 +457,8 @@ fn added_entries(
     let mut shown = Vec::with_capacity(alloc, wanted.count)?;
     for (index, leaf) in leaves.iter().enumerate() {
         let set = set_at(sets, index);
-        let hits = hits_of(alloc, query, set, leaf)?;
-        let found = hits.count();
+        let found = show_leaf(alloc, &mut shown, wanted, leaf, query, set)?;
         total = more_hits(total, found)?;
-        show_behind(alloc, &mut shown, wanted, leaf.segment(), hits, found)?;
     }
     Ok((total, shown))
 }

@@ -1,5 +1,5 @@
 //! Hits that are offered to a page in its own order.
-ghost use Rattle.std.specs.Prelude.{◌≡◌, ◌<◌, ◌≤◌, ◌+◌, false, filter, length, map, take, All, OnOk, IsTrue};
+ghost use Rattle.std.specs.Prelude.{◌≡◌, ◌<◌, ◌≤◌, ◌+◌, ◌∷◌, [], false, filter, length, map, take, true, All, IfOk, OnOk, IsTrue};
 ghost use Rattle.cat_views.specs.cat_segment.RowParts.{parts_of, rows_of_parts, rows_of_parts_before};
 ghost use Rattle.cat_model.specs.RowSets.{has_row};
 ghost use Rattle.cat_search.specs.Bars.{IsFullBy};
@@ -204,6 +204,35 @@ fn is_left_out<'a>(best: &Best<Candidate<'a>>, candidate: &Candidate<'a>) -> boo
     }
 }
 
+/// Offers the row to the page, if it is a hit and the mark comes before it; whether a walk goes on behind it, which it doesn't
+/// behind a hit that a full page leaves out.
+#[inline(always)]
+fn offer_step<'a>(
+    best: &mut Best<Candidate<'a>>,
+    ranks: &LeafRanks<'a>,
+    hits: &Hits<'_>,
+    row: usize,
+    mark: &Option<Candidate<'a>>,
+) -> Result<bool, AllocError>
+    requires long { length (hit_rows hits.now) ≡ length ranks.now }
+    requires within { row < length ranks.now }
+    ensures limit { best.new.limit ≡ best.old.limit }
+    ensures goes { IfOk result (λ goes. goes ≡ true → TakesIn best.old best.new (behind (mark_standing mark.now)
+        (map (standing_at ranks.now) (filter (has_row (hit_rows hits.now)) (row ∷ []))))) }
+    ensures ends { IfOk result (λ goes. goes ≡ false → IsFullBy best.new (standing_at ranks.now row) × TakesIn best.old best.new []) }
+{
+    if !hits.contains(row) {
+        return Ok(true);
+    }
+    let candidate = ranks.at(row);
+    best.close()?;
+    if is_left_out(best, &candidate) {
+        return Ok(false);
+    }
+    offer_hit(best, candidate, mark)?;
+    Ok(true)
+}
+
 /// Offers the hits among these rows to the page, as far as the mark comes before them. The rows stand in the order in which a
 /// page shows them, so it ends at the first hit that a full page leaves out, and looks at no row behind it.
 pub(crate) fn offer_walk<'a>(
@@ -220,13 +249,9 @@ pub(crate) fn offer_walk<'a>(
         (map (standing_at ranks.now) (filter (has_row (hit_rows hits.now)) walk.entry)))) }
 {
     for row in walk {
-        if hits.contains(row) {
-            let candidate = ranks.at(row);
-            best.close()?;
-            if is_left_out(best, &candidate) {
-                return Ok(());
-            }
-            offer_hit(best, candidate, mark)?;
+        let goes_on = offer_step(best, ranks, hits, row, mark)?;
+        if !goes_on {
+            return Ok(());
         }
     }
     Ok(())

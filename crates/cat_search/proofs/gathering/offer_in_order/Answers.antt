@@ -67,3 +67,9 @@ returns-clause-best c = λ ps h.
     let best = c.in_ok-offer_range.ensures.best ps h in
     let took = subst (λ s. IsBestAt kept (ps ++ standings_at mark ranks (filter (has_row s) walk))) live.ensures.rows best in
     taken_is q rs ranks o is walk (c.in-Some.ensures.walk rs is) leaf.live long mark kept ps took
+
+pub offer_range-requires-clause-long : goal.offer_range-requires-clause-long
+offer_range-requires-clause-long c =
+    let o = c.args.wanted.now.order in
+    let is : c.of-ranks.result ≡ map (row_standing o) c.args.leaf.now.segment.rows = c.of-ranks.ensures ∙ ap (λ t. map (row_standing o) t.rows) c.segment.ensures in
+    c.live_in-live.ensures.long ∙ sym (ap length is ∙ length-map c.args.leaf.now.segment.rows (row_standing o))

@@ -20,3 +20,6 @@ loop-row-preserved c =
 
 pub returns : goal.returns
 returns c = c.loop-row.invariant ∙ ap (count_by (has_row c.args.set.now)) (take_all c.loop-row.row-index c.args.rows.now c.loop-row-test.false)
+
+pub contains-requires : goal.contains-requires
+contains-requires c = c.requires c.loop-row.row-index 0 c.loop-row-test.true
