@@ -1,4 +1,5 @@
-use Rattle.std.proofs.Common.{List, subst, ◌≡◌, sym, IfSome, ◌∙◌, map, take, ap}
+use Rattle.std.proofs.Common.{List, subst, ◌≡◌, sym, IfSome, ◌∙◌, length, map, take, ap}
+use Rattle.std.proofs.lemmas.List.{take_all}
 use Rattle.cat_model.specs.View.{row_matches}
 use Rattle.cat_query.specs.View.{query_of}
 use Rattle.cat_search.specs.declared.sort.Order.TheVariants.{Added}
@@ -32,3 +33,12 @@ show_leaf-requires c =
     let hand = c.requires c.loop-index.index leaf c.loop-index-test.true in
     looked_at (λ s. s ≡ map rows leaf.segment.rows) c.set_at-set.result (set_at c.args.sets.now c.loop-index.index) c.set_at-set.ensures
     (subst (λ l. IfSome (set_at c.args.sets.now c.loop-index.index) (λ s. s ≡ map rows l.segment.rows)) (sym c.index-leaves-index.is) hand)
+
+pub returns-clause-total : goal.returns-clause-total
+returns-clause-total c = c.loop-index.invariant.total ∙ ap (λ ls. length (hits_in ls (query_of c.args.query.now))) (take_all c.loop-index.index c.args.leaves.now c.loop-index-test.false)
+
+pub returns-clause-first : goal.returns-clause-first
+returns-clause-first c =
+    let wanted = c.args.wanted.now in
+    c.loop-index.invariant.shown
+    ∙ ap (λ ls. take wanted.count (map entry_shown (behind (mark_standing wanted.mark) (map (row_standing Added) (hits_in ls (query_of c.args.query.now)))))) (take_all c.loop-index.index c.args.leaves.now c.loop-index-test.false)

@@ -65,3 +65,18 @@ returns c =
       shown = on_ok_weaker c.show_rows.result (λ given standings h.
           given standings h ∙ ap (λ (l : List HitStanding). take c.args.wanted.now.count (map entry_shown (standings ++ l))) same) c.show_rows.ensures.shown;
     }
+
+pub show_tested-requires : goal.show_tested-requires
+show_tested-requires c =
+    let ranked : length c.of-ranks.result ≡ length c.args.segment.now.rows = ap length c.of-ranks.ensures ∙ length-map c.args.segment.now.rows (row_standing Added) in
+    record {
+      long = c.requires.long ∙ sym ranked;
+      within = subst (λ (n : ℕ). c.args.from ≤ n) (sym ranked) c.requires.within;
+    }
+
+pub show_rows-requires : goal.show_rows-requires
+show_rows-requires c =
+    let hits = hit_rows c.args.hits in
+    let ranked : length c.of-ranks.result ≡ length c.args.segment.now.rows = ap length c.of-ranks.ensures ∙ length-map c.args.segment.now.rows (row_standing Added) in
+    let here : c.args.from ≤ length hits = subst (λ (n : ℕ). c.args.from ≤ n) (sym c.requires.long) c.requires.within in
+    record { long = ap length (c.remove_below.ensures ∙ ap (cleared c.args.from) c.in_ok-left.ensures.ok) ∙ cleared_long c.args.from hits here ∙ c.requires.long ∙ sym ranked }
