@@ -3,7 +3,7 @@ use Rattle.std.proofs.Common.{◌≡◌, ℕ, zero, suc, ◌+◌, ◌<◌, ◌�
 use Rattle.std.specs.Prelude.{All, count_by, if◌then◌else◌}
 use Rattle.std.specs.List.{flat_map}
 use Rattle.std.proofs.lemmas.List.{take_more, length-map, get_or-map}
-use Rattle.std.proofs.lemmas.List.Sums.{sum_by-cons, count_by_more_yes, count_by_more_no}
+use Rattle.std.proofs.lemmas.List.Sums.{sum_by-cons, sum_by-take-le, count_by_more_yes, count_by_more_no}
 use Rattle.std.proofs.lemmas.List.Elements.{All-take}
 use Rattle.cat_model.specs.RowSets.{has_row}
 use Rattle.cat_model.specs.View.{Leaf, live_rows, selected}
@@ -62,6 +62,10 @@ module _ (first next : ℕ) (live : List Bool) (row : ℕ) (within : row < lengt
   pub counted : (b : Bool) → has_row live row ≡ b → (if b then next + 1 else next) ≡ first + count (take (row + 1) live)
   counted true is = omega (arith, at, count_by_more_yes (λ b. b) live row false within is)
   counted false is = omega (arith, at, count_by_more_no (λ b. b) live row false within is)
+
+  -- and it is among all that are live
+  pub fits : has_row live row ≡ true → next + 1 ≤ first + count live
+  fits is = omega (arith, at, count_by_more_yes (λ b. b) live row false within is, sum_by-take-le (λ b. cond b 1 0) live (row + 1))
 
 pub kept_of-codes_from : {A : Type 0} (n : ℕ) (bs : List Bool) (xs : List A) → kept_of (codes_from n bs) xs ≡ selected bs xs
 kept_of-codes_from n [] xs = refl

@@ -1,7 +1,7 @@
 use Rattle.cat_merge.specs.Maps.{codes_from}
 use Rattle.std.proofs.lemmas.List.{take_all}
 use Rattle.std.proofs.Common.{arith, true, false, sym, ap, ◌∙◌}
-use Rattle.cat_merge.proofs.Codes.{coded, counted}
+use Rattle.cat_merge.proofs.Codes.{coded, counted, fits}
 use Rattle.cat_merge.proofs.row_maps.row_map.Goals as goal
 use Rattle.cat_merge.proofs.row_maps.row_map.Goals.{then-is_live+in_ok-push, else-is_live+in_ok-push-2}
 
@@ -25,3 +25,6 @@ pub returns : goal.returns
 returns c = record {
   ok = c.loop-row.invariant.map ∙ ap (codes_from c.args.first) (take_all c.loop-row.row c.args.live.now (omega arith));
 }
+
+pub overflow_add-next : goal.overflow_add-next
+overflow_add-next c = omega (arith, fits c.args.first c.loop-row.next c.args.live.now c.loop-row.row (omega arith) c.loop-row.invariant.next (sym c.is_live.ensures ∙ c.if-is_live.true), c.requires)
