@@ -17,7 +17,7 @@ use cat_query::cat_items::Schema;
 use cat_views::View;
 
 /// What is asked of a page, beside its query (Lucene: the other arguments of `IndexSearcher.searchAfter`).
-#[derive(Clone, Copy, Debug, PartialEq, Eq)]
+#[derive(Clone, Copy)]
 pub struct Ask<'a> {
     /// How the hits are sorted.
     pub sort: Sort<'a>,

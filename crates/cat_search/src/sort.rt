@@ -17,7 +17,7 @@ use std::cmp::Reverse;
 ///
 /// Hits without a value come last, rising and falling; Lucene says that for each field by
 /// `SortField.setMissingValue`. Hits that tie stand in order of addition, both ways.
-#[derive(Clone, Copy, Debug, PartialEq, Eq)]
+#[derive(Clone, Copy)]
 pub enum Sort<'a> {
     /// In order of addition (Lucene: `Sort.INDEXORDER`).
     Added,
