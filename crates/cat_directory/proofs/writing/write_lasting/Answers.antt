@@ -1,4 +1,4 @@
-use Rattle.std.proofs.Common.{◌≡◌, ◌∙◌, sym, subst}
+use Rattle.std.proofs.Common.{◌≡◌, ◌∙◌, sym, subst, rules}
 use Rattle.std.specs.Prelude.{Result, Ok, Err, OnOk}
 use Rattle.std.proofs.lemmas.Result.{on_ok_weaker}
 use Rattle.cat_directory.specs.Devices.{IsSettled}
@@ -28,3 +28,6 @@ returns-clause-gone g c =
 
 pub returns-clause-can : goal.returns-clause-can
 returns-clause-can g c = λ can. c.in_ok-write_file.ensures.can (c.sync.ensures.can can)
+
+pub returns-clause-lasts : goal.returns-clause-lasts
+returns-clause-lasts g c = search rules depth 1
