@@ -74,8 +74,8 @@ def type_word(text):
     return without_brackets(text).split("::")[-1].strip()
 
 
-def owner_of(header):
-    """What stands for an impl's type, or its type and trait, in a function's path."""
+def owner_of(header, types=()):
+    """What stands for an impl's type, or its type and trait, in a function's path: where a type has that name, with the type's arguments."""
     header = re.sub(r"\s+", " ", header).partition(" where ")[0].strip()
     header = re.sub(r"^(unsafe )?impl\b\s*", "", header)
     if header.startswith("<"):
@@ -92,7 +92,9 @@ def owner_of(header):
         return type_word(of)
     inside = re.search(r"<(.*)>", trait)
     arguments = "".join(type_word(it) for it in inside[1].split(",")) if inside else ""
-    return type_word(of) + type_word(trait) + arguments
+    name = type_word(of) + type_word(trait) + arguments
+    # An impl's own parameters are called Any there.
+    return type_word(of) + "Any" * (of.count(",") + 1) + type_word(trait) + arguments if name in types else name
 
 
 def module_of(file):
@@ -166,7 +168,7 @@ def unit_at(room, file, text, at):
     header = impl_of(lines, head) if indent else None
     trait = TRAIT.match(header or "")
     if header:
-        owner = trait[1] if trait else owner_of(header)
+        owner = trait[1] if trait else owner_of(header, homes(room))
         if not trait and (" for " not in without_brackets(header) or IS_DROP.search(header)):
             module = home_of(room, owner, file)
         names.insert(0, owner)
