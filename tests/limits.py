@@ -47,12 +47,16 @@ class Child:
             [program, *arguments],
             stdin=subprocess.PIPE,
             stdout=subprocess.PIPE,
-            preexec_fn=lambda: resource.setrlimit(resource.RLIMIT_STACK, (STACK, STACK)),
+            preexec_fn=self.prepare,
         )
         # A program that doesn't answer ends, so that what waits for it fails.
         self.watch = threading.Timer(PATIENCE, self.process.kill)
         self.watch.daemon = True
         self.watch.start()
+
+    def prepare(self):
+        """What is done in the child before it becomes the program."""
+        resource.setrlimit(resource.RLIMIT_STACK, (STACK, STACK))
 
     def stack(self):
         """The bytes of stack that the running program may have."""
