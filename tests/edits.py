@@ -6,8 +6,10 @@ usage: tests/edits.py [--anew] [--as-they-stand] [--beside FILE] [--lanes N] [--
 All edits of a crate go into one copy of it, and one check proves the functions that they change; of two edits of one function
 the second changes a copy of it, which has its contract and its proof under another name, and its cycle with it where it is in
 one. A caller's proof rests on nothing of a callee but its contract, so every other function of the copy is left with that alone:
-its body is taken out, and a hole stands for its proof. An edit is refused where its function is not proved, and for what it does: a goal of its own function is left open,
-or an answer to one no longer proves it. Where nothing but names that are gone tells against it, it shows nothing of the contract,
+its body is taken out, and a hole stands for its proof. An edit is refused where its function is not proved, and for what it does:
+a goal of its own function is left open, or an answer to one no longer proves it. A line '# clause: NAME' names the clause of its
+function that refuses it, and '# clause: (none)' says that a goal inside it does, as of a call or a loop: the other clauses of what
+the function ensures are then left out. Where nothing but names that are gone tells against it, it shows nothing of the contract,
 and counts as not refused. The goals in an edit's line '# leave: GOAL..' are left out: others refuse it sooner. What isn't refused
 beside such functions is tried again in a copy that has each with its body and its proof, and what comes of that stands. An edit
 with a line '# compiler: TEXT' is one that must not compile: the compiler has to refuse it by an error with this text.
@@ -42,7 +44,8 @@ from pathlib import Path
 sys.path.insert(0, str(Path(__file__).resolve().parent))
 
 import kit  # noqa: E402
-from functions import can_be_copied, copy_function, goals_answered, leave_contracts, leave_goals, unit_at, unit_named, units_of  # noqa: E402
+from functions import answers_all_clauses, can_be_copied, clause_of_goal, clauses_of, copy_function, goals_answered  # noqa: E402
+from functions import leave_clauses, leave_contracts, leave_goals, unit_at, unit_named, units_of  # noqa: E402
 from sources import TOP, Sources  # noqa: E402
 
 EDITS = TOP / "tests" / "edits"
@@ -72,6 +75,8 @@ class Edit:
         self.pairs, self.only, self.lemmas, self.fault = [], [], [], None
         # Goals of its function that are left out, since others refuse it sooner.
         self.goals_left = []
+        # The clauses of its function that are left, where a line says which refuses it.
+        self.clauses = None
         # What the compiler has to say of an edit that must not compile.
         self.compiler = None
         # Whether it stands in no function, so that it changes more than one.
@@ -100,6 +105,8 @@ class Edit:
                 self.compiler = line[len("# compiler: ") :].strip()
             elif line.startswith("# leave: "):
                 self.goals_left += line[len("# leave: ") :].split()
+            elif line.startswith("# clause: "):
+                self.clauses = [it for it in line[len("# clause: ") :].split() if it != "(none)"]
             elif line.startswith("# lemma: "):
                 # The files of lemmas that say of the type what the functions' contracts rest on.
                 self.lemmas += line[len("# lemma: ") :].split()
@@ -141,6 +148,11 @@ class Edit:
         for unit in units.values():
             for goal in goals_answered(room, unit, self.goals_left):
                 return None, f"a line '# leave:' names {goal}, which has an answer"
+        for unit in units.values():
+            text = texts.get(unit.file) or (room / unit.file).read_text(encoding="utf-8")
+            named = {name for name, _, _ in clauses_of(text.split("\n"), unit)}
+            for name in set(self.clauses or ()) - named:
+                return None, f"a line '# clause:' names {name}, which is no clause of what {unit.path} ensures"
         for path, text in texts.items():
             (room / path).write_text(text, encoding="utf-8")
         if self.only:
@@ -157,6 +169,15 @@ class Edit:
             rows = "\n".join((room / of.file).read_text(encoding="utf-8").split("\n")[of.head : of.body[1] + 1])
             self.is_for_copies = all(path == of.file for path, _, _ in self.pairs) and self.in_text(rows) is not None and can_be_copied(self.crate, room, of)
         return why
+
+    def leave_out(self, room, unit, as_it_stands):
+        """Leaves out of its function in the copy of the crate, or of the copy of that, the clauses and the goals that don't have to refuse it."""
+        goals = self.goals_left
+        if self.clauses is not None and unit.path != self.units[0].path and not unit.cycle and not answers_all_clauses(room, unit):
+            leave_clauses(room, unit, self.clauses)
+            goals = [it for it in goals if clause_of_goal(it) in (None, *self.clauses)]
+        if not as_it_stands:
+            leave_goals(self.crate, room, unit, goals)
 
     def in_text(self, text):
         """The text of its function as it changes that, or None where it doesn't all stand there."""
@@ -267,7 +288,8 @@ def applied(edits, room, as_they_stand):
     """Applies the edits to the copy of the crate, one of a function that another has changed to a copy of that; gives which functions each changes."""
     units, keys, second = {}, set(), []
     for edit in edits:
-        if keys & {it.key for it in edit.units}:
+        # Clauses are left out of a copy alone, since what calls the function has to find them all.
+        if keys & {it.key for it in edit.units} or edit.clauses is not None and edit.is_for_copies:
             second.append(edit)
             continue
         found, why = edit.apply(room)
@@ -297,9 +319,8 @@ def check(batch, edits, words, kept, checks, as_they_stand=False):
         is_whole = "--allow-holes" not in words
         if not is_whole:
             leave_contracts(batch.crate, room, changed)
-        if not (is_whole or as_they_stand):
-            for edit in units:
-                leave_goals(batch.crate, room, units[edit][0], edit.goals_left)
+            for edit, found in units.items():
+                edit.leave_out(room, found[0], as_they_stand)
         # What an edit adds or takes away is one line for one line, so the places of functions stay.
         asked = [word for name in sorted({it.path for it in changed}) for word in ("--only", name)]
         ran = checks.run(batch.crate, [*words, *asked, "--incremental", kept], room)

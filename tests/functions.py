@@ -12,6 +12,10 @@ OWNER = re.compile(r"(?:unsafe )?impl\b|(?:pub(?:\([^)]*\))? )?trait\b")
 IS_DROP = re.compile(r"\bDrop for ")
 TRAIT = re.compile(r"(?:pub(?:\([^)]*\))? )?trait (\w+)")
 
+# How a clause of what a function ensures begins, with its name where it has one, and a declaration of a file of answers.
+CLAUSE = re.compile(r"\s*ensures\*?(?: (\w+))? \{")
+DECLARED = re.compile(r"(?m)^(?=(?:pub )?\S+ : )")
+
 # The files of a function's proof that a person writes, where its proof isn't all by hand.
 ANSWERS = ("Invariants.antt", "Answers.antt")
 # A body that is of every type, and calls nothing.
@@ -326,3 +330,57 @@ def leave_goals(crate, room, unit, goals):
     text = own.read_text(encoding="utf-8") if own.is_file() else f"use Rattle.{crate}.proofs.{unit.path.replace('::', '.')}.Goals as goal\n"
     own.parent.mkdir(parents=True, exist_ok=True)
     own.write_text(text + "".join(f"\npub {it} : goal.{it}\n{it} = absurd ?\n" for it in goals), encoding="utf-8")
+
+
+def clauses_of(lines, unit):
+    """The clauses of what the function ensures, in these lines of its file: the name of each, or None, and the rows that it begins and ends on."""
+    found, row = [], unit.head
+    while row < unit.body[0]:
+        clause, first = CLAUSE.match(lines[row]), row
+        while clause and "".join(lines[first : row + 1]).count("{") > "".join(lines[first : row + 1]).count("}"):
+            row += 1
+        if clause:
+            found.append((clause[1], first, row))
+        row += 1
+    return found
+
+
+def leave_clauses(room, unit, kept):
+    """Leaves of the clauses of what the function ensures those of these names alone, and of its answers those to goals of theirs.
+
+    A body that is refused by some of the clauses is refused by all. The lines of the others are empty, so that all stand where they stood."""
+    file = room / unit.file
+    lines = file.read_text(encoding="utf-8").split("\n")
+    clauses = clauses_of(lines, unit)
+    left = [name for name, _, _ in clauses if name in kept]
+    for name, first, last in clauses:
+        if name not in kept:
+            lines[first : last + 1] = [""] * (last + 1 - first)
+        elif len(left) == 1:
+            lines[first] = lines[first].replace(f" {name} {{", " {", 1)
+    file.write_text("\n".join(lines), encoding="utf-8")
+    own = room.joinpath("proofs", *unit.path.split("::"), "Answers.antt")
+    if own.is_file():
+        text = "".join(it for it in DECLARED.split(own.read_text(encoding="utf-8")) if clause_answered(it) in (None, *kept))
+        # The goals of a clause that stands alone don't end in its name.
+        if len(left) == 1:
+            text = re.sub(rf"(?<![\w-])((?:goal\.)?returns[\w-]*)-clause-{left[0]}(?![\w-])", r"\1", text)
+        own.write_text(text, encoding="utf-8")
+
+
+def answers_all_clauses(room, unit):
+    """Whether the function's own file of answers has one to a goal of all clauses together, which tells each of them."""
+    own = room.joinpath("proofs", *unit.path.split("::"), "Answers.antt")
+    return own.is_file() and re.search(r"(?m)^(?:pub )?returns(?!\S*-clause-)\S* : goal\.", own.read_text(encoding="utf-8")) is not None
+
+
+def clause_of_goal(goal):
+    """The name of the clause that the goal of what a function ensures is of, or None of another goal."""
+    named = re.fullmatch(r"returns(?:-\S+)?-clause-(\w+)", goal)
+    return named[1] if named else None
+
+
+def clause_answered(declaration):
+    """The name of the clause that the declaration is an answer to a goal of, or None."""
+    goal = re.match(r"(?:pub )?(\S+) : goal\.", declaration)
+    return clause_of_goal(goal[1]) if goal else None
