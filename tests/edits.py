@@ -19,7 +19,7 @@ builds. What an edit came to is kept beside the kit by the checksums of all that
 of these changes; --anew tries all. The last line is `N refused, M not`, and the status 0 where M is.
 
 With --beside FILE it goes along with an `rt ci` that runs for as long as the file is there: a crate's edits are tried once the
-libraries below it are kept, by processors that `rt ci` leaves idle.
+libraries below it are proved, by processors that `rt ci` leaves idle.
 
 With --as-they-stand the edits are left out, and nothing is kept: the same checks have to prove each function, so that what
 refuses an edit is the edit. The last line is then `N proved as they stand, M not`.
@@ -484,7 +484,7 @@ def try_all(batches, sources, asked, tell):
             while left or running:
                 if not is_whole:
                     is_whole = not checks.is_beside()
-                    (libraries.take_all if is_whole else libraries.take_kept)(left)
+                    (libraries.take_all if is_whole else libraries.take_proved)(left)
                 ready = [it for it in left if is_whole or it in libraries.at]
                 for crate in ready[: lanes - len(running)]:
                     left.remove(crate)

@@ -9,6 +9,7 @@ import importlib.machinery
 import importlib.util
 import json
 import os
+import re
 import shutil
 import subprocess
 import sys
@@ -61,14 +62,34 @@ class Libraries:
     def __init__(self, sources):
         # For each crate, where it finds itself and those below it: they fit together only as they were built.
         self.sources, self.room, self.at, self.gate = sources, None, {}, None
+        self.is_kept = home() is not None and hasattr(rt(), "Kept")
+        # What stands in out/ as `rt ci` begins comes back there as it ends, and what it made goes.
+        self.stays = not any((TOP / "crates").glob("*/out/rlib"))
 
     def take_all(self, crates):
         """Finds those of each crate: those that `rt ci` kept or left, and else those that are built now."""
-        self.take_kept(crates)
+        self.take_proved(crates)
         self.take_left([it for it in crates if it not in self.at])
         for crate in crates:
             if crate not in self.at:
                 self.build(crate)
+
+    def take_proved(self, crates):
+        """Takes what `rt ci` has proved, which may still be running."""
+        if self.is_kept:
+            self.take_kept(crates)
+        elif self.stays:
+            self.take_made(crates)
+
+    def take_made(self, crates):
+        """Takes what an `rt ci` that keeps nothing has made in out/, by what it says of each crate once that is proved."""
+        log = TOP / "out" / "ci.log"
+        said = log.read_text(encoding="utf-8", errors="replace") if log.is_file() else ""
+        proved = set(re.findall(r"^rt: (\w+) proved$", said, re.M))
+        for crate in crates:
+            below = self.sources.below(crate)[:-1]
+            if crate not in self.at and proved.issuperset(below) and all((self.in_out(crate)[it] / "format").is_file() for it in below):
+                self.at[crate] = self.in_out(crate)
 
     def take_kept(self, crates):
         """Takes what `rt ci` proved of the same files over the same libraries, by the sums under which it keeps that.
