@@ -2,6 +2,7 @@
 
 The kernel stops each of these calls and asks (seccomp's user notification, Linux 5.6 or later on x86-64), and a thread of the test
 answers: let it through, or fail it with this error, or do a part of it. So the program that is tried is the one that is released.
+Its requests for memory can be refused in the same way.
 """
 
 import ctypes
@@ -12,13 +13,17 @@ import select
 import socket
 import struct
 import threading
+import time
 
-from limits import Child
+from limits import Broken, Child
 
 # The calls that are stopped, by their numbers on x86-64: what is told of each, and which argument is the descriptor, or the path.
 BY_DESCRIPTOR = {0: "read", 1: "write", 8: "seek", 17: "read", 18: "write", 73: "lock", 74: "sync", 75: "sync", 77: "cut", 217: "list", 332: "size"}
 BY_PATH = {87: 0, 257: 1, 263: 1}
 DELETES = (87, 263)
+# Requests for memory: a mapping, a mapping that grows, and the end of the heap. Of a refused one the last answers the old end.
+MAP, GROW, HEAP = 9, 25, 12
+WITHOUT_FILE = 0x20
 
 # What stands in linux/seccomp.h and linux/filter.h.
 NEW_LISTENER, SET_FILTER, SECCOMP, PIDFD_OPEN, PIDFD_GETFD = 8, 1, 317, 434, 438
@@ -38,10 +43,10 @@ def call(number, *words):
     return answer
 
 
-def stop_calls():
+def stop_calls(memory=False):
     """Has the kernel ask of each such call that this process makes from now on. Answers the descriptor that tells of them."""
     lines = [(LOAD, 0, 0, 0)]
-    for number in BY_PATH:
+    for number in (*BY_PATH, *((MAP, GROW, HEAP) if memory else ())):
         lines.append((IS, 0, 1, number))
         lines.append((ENDS, 0, 0, NOTIFY))
     # Standard input, output and error are no files of a folder: only descriptors above 2 are asked about.
@@ -85,11 +90,12 @@ NEVER = Faults()
 
 
 class Faulty(Child):
-    """The program over a folder. `calls` has each call that it made since `meet` was called, as its kind and its file's name."""
+    """The program over a folder. `calls` has each call that it made since `meet` was called, as its kind and its file's name. With
+    `memory` its requests for memory are stopped too: `requests` are those since `starve` was called."""
 
-    def __init__(self, folder, program, *arguments, faults=NEVER, bytes_at_once=None):
+    def __init__(self, folder, program, *arguments, faults=NEVER, bytes_at_once=None, memory=False):
         self.folder, self.faults, self.calls, self.bytes_at_once = os.path.realpath(folder).encode(), faults, [], bytes_at_once
-        self.taken = 0
+        self.taken, self.memory, self.hunger, self.requests = 0, memory, NEVER, 0
         self.ours, self.theirs = socket.socketpair()
         self.asked = threading.Thread(target=self.answer_all, daemon=True)
         self.asked.start()
@@ -98,11 +104,26 @@ class Faulty(Child):
 
     def prepare(self):
         super().prepare()
-        socket.send_fds(self.theirs, [b"."], [stop_calls()])
+        socket.send_fds(self.theirs, [b"."], [stop_calls(self.memory)])
 
     def meet(self, faults=NEVER):
         """Lets these calls fail from now on, and begins to count."""
         self.faults, self.calls, self.taken = faults, [], 0
+
+    def starve(self, faults=NEVER):
+        """Refuses these requests for memory from now on, and begins to count. The system needs memory to begin the program, so wait
+        until it waits for its input."""
+        self.hunger, self.requests = faults, 0
+
+    def wait_until_it_reads(self, patience=60):
+        """Waits until the program waits for its standard input."""
+        last = time.monotonic() + patience
+        while time.monotonic() < last:
+            with open(f"/proc/{self.process.pid}/syscall") as it:
+                if it.read().split()[:2] == ["0", "0x0"]:
+                    return
+            time.sleep(0.001)
+        raise Broken("the program doesn't ask for its input")
 
     def answer_all(self):
         """Answers the kernel until the program has ended."""
@@ -127,6 +148,8 @@ class Faulty(Child):
 
     def answer(self, process, number, words):
         """The result, the error and the flags for one call."""
+        if number in (MAP, GROW, HEAP):
+            return self.give(process, number, words)
         path = self.path_of(process, number, words)
         if path != self.folder and not path.startswith(self.folder + b"/"):
             return 0, 0, GO_ON
@@ -141,6 +164,27 @@ class Faulty(Child):
         if self.bytes_at_once and number in (0, 1) and words[2] > self.bytes_at_once:
             return self.part(process, number, words), 0, 0
         return 0, 0, GO_ON
+
+    def give(self, process, number, words):
+        """The same for a request for memory. What gives memory back, and what maps a file, is none."""
+        end = self.heap_end(process) if number == HEAP else 0
+        asks = {MAP: words[3] & WITHOUT_FILE, GROW: words[2] > words[1], HEAP: words[0] > end}[number]
+        if not asks:
+            return 0, 0, GO_ON
+        self.requests += 1
+        if not self.hunger.fails(self.requests - 1, "memory"):
+            return 0, 0, GO_ON
+        return (end, 0, 0) if number == HEAP else (0, -errno.ENOMEM, 0)
+
+    def heap_end(self, process):
+        """Where the program's heap ends."""
+        with open(f"/proc/{process}/maps") as maps:
+            for line in maps:
+                if line.endswith("[heap]\n"):
+                    return int(line.split()[0].partition("-")[2], 16)
+        # It has none yet, and the heap begins at the 47th word.
+        with open(f"/proc/{process}/stat") as told:
+            return int(told.read().rpartition(")")[2].split()[44])
 
     def kind_of(self, number, words):
         if number in DELETES:
