@@ -8,13 +8,16 @@ The last line is `N passed, M failed`.
 """
 
 import json
+import shutil
+import struct
 import sys
 
 import commits
-from limits import MAX_ROWS, SCHEMA_FIELDS, Child, Item, segment_bytes, write_commit, write_segment
+from limits import MAX_ROWS, SCHEMA_FIELDS, Child, Item, segment_bytes, u32, u64, write_commit, write_segment
 from tries import expect, run, state
 
 MAX_STEP_ROWS = 256
+HALF = MAX_ROWS // 2
 # A field of each kind.
 FIELDS = '{"brand":"keyword","color":"facet","price":"number","title":"text"}'
 # What an item may have in each.
@@ -268,6 +271,117 @@ def a_full_segment_is_merged_of_64(try_):
         child.kill()
 
 
+# Levels and windows, as a person worked them out: the second and the third number are those of the schema line, then come how many rows
+# each segment has, and how many segments stand before those that are merged; None where none are.
+WINDOWS = (
+    # Segments of two or more rows are of levels by powers of two: 1; 2; 3 and 4; 5 to 8.
+    (2, 1, (1,), None),
+    (2, 1, (1, 1), 0),
+    (2, 1, (1, 2), None),
+    (2, 1, (2, 3), None),
+    (2, 1, (3, 4), 0),
+    (2, 1, (4, 5), None),
+    (2, 1, (5, 8), 0),
+    (2, 1, (8, 9), None),
+    (2, 1, (65_536, 65_537), None),
+    (2, 1, (131_072, 65_536), None),
+    (2, 1, (131_072, 65_537), 0),
+    # By tens of a thousand, and by hundreds of a hundred thousand.
+    (10, 1_000, (1_000, *(1,) * 9), 0),
+    (10, 1_000, (1_001, *(1,) * 9), None),
+    (10, 1_000, (1_001, *(1_000,) * 9), None),
+    (10, 1_000, (10_000, *(1_001,) * 9), 0),
+    (10, 1_000, (10_001, *(1_001,) * 9), None),
+    (10, 1_000, (10_001,) * 10, 0),
+    (100, 100_000, (100_000, *(1,) * 99), 0),
+    (100, 100_000, (100_001, *(1,) * 99), None),
+    # The lowest level goes first, and of one level what stands before the others. Neighbours alone are merged.
+    (2, 1, (4, 2, 1, 1), 2),
+    (2, 1, (2, 2, 1), 0),
+    (2, 1, (1, 2, 1), None),
+    (2, 1, (3, 4, 1, 1), 2),
+    (2, 1, (), None),
+    (2, 1, (4, 1, 1, 1), 1),
+    (2, 1, (2, 2, 1, 1, 2, 1, 1), 2),
+    (2, 1, (3, 4, 8, 7, 3, 3), 0),
+    (2, 1, (8, 7, 3, 3, 8, 8), 2),
+    (3, 10, (10, 10), None),
+    (3, 10, (10, 9, 8), 0),
+    (3, 10, (10, 9, 11, 8, 7), None),
+    (3, 10, (10, 9, 11, 8, 7, 1), 3),
+    (3, 10, (30, 11, 29, 30, 10, 10), 0),
+    (3, 10, (31, 30, 11, 29, 30, 10, 10), 1),
+    (3, 10, (30, 11, 29, 10, 10, 10, 10), 3),
+    (100, 1, (1,) * 99, None),
+    (100, 1, (1,) * 101, 0),
+    # Together they have as many rows as one segment may have: 262,144, which is 64 times 4,096, and less than 100 times 2,622.
+    (2, 100_000, (HALF, HALF), 0),
+    (2, 100_000, (HALF, HALF + 1), None),
+    (2, 100_000, (HALF + 1, HALF, HALF, HALF), 1),
+    (64, 100_000, (4_096,) * 64, 0),
+    (64, 100_000, (*(4_096,) * 63, 4_097), None),
+    (100, 100_000, (2_621,) * 100, 0),
+    (100, 100_000, (2_622,) * 100, None),
+)
+FEW = 20_000
+ROW = struct.Struct(">QI6sI")
+
+
+def rows_from(first, count):
+    """A segment's file of so many rows without a field, and that of their texts, of one byte each."""
+    rows = b"".join(ROW.pack(it, 6, b"%06d" % it, 1) for it in range(first, first + count))
+    return u32(count) + u32(0) + rows, b"x" * count
+
+
+def of_sizes(try_, sizes):
+    """A folder of segments of so many rows."""
+    folder, first = try_.folder(), 1
+    for number, count in enumerate(sizes, 1):
+        rows, texts = rows_from(first, count)
+        (folder / f"_{number}.seg").write_bytes(b"CSEG\1" + u64(number) + rows)
+        (folder / f"_{number}.sto").write_bytes(texts)
+        first += count
+    listed = tuple((number, 0) for number in range(1, len(sizes) + 1))
+    (folder / "segments_1").write_bytes(commits.commit(1, first - 1, len(sizes) + 1, listed, fields=u32(0)))
+    return folder
+
+
+def standing(sizes):
+    """What STAT tells of segments, each a number and its rows, which all live."""
+    return [f"{number} {rows} {rows}" for number, rows in sizes]
+
+
+def expect_window(try_, factor, least, sizes, index):
+    """The texts of the window's segments alone are there, so that a merge of others fails; and the new segment stands in their place. Of
+    many rows one step is tried, which needs the texts of the window's first segment alone."""
+    what = f"{str(sizes)[:60]} under {factor} {least}"
+    folder, before = of_sizes(try_, sizes), list(enumerate(sizes, 1))
+    child = Child(try_.program, "run", str(folder))
+    try:
+        expect(f"the opening of {what}", child.ask(f"SCHEMA {factor} {least} {{}}"), f"OK {sum(sizes)}")
+        expect(f"a merge of {what}", child.ask("0 MERGE"), "OK idle" if index is None else f"OK begun {factor}")
+        if index is not None:
+            rows = sum(sizes[index : index + factor])
+            end = index + (1 if rows > FEW else factor)
+            for number, _ in before[:index] + before[end:]:
+                (folder / f"_{number}.sto").unlink()
+            if rows > FEW:
+                expect(f"a step of {what}", child.ask("0 MERGE"), f"OK copied {MAX_STEP_ROWS}")
+            else:
+                told = child.say(["0 MERGE"] * (-(-rows // MAX_STEP_ROWS) + 1))
+                expect(f"the steps of {what}", told[-2:], [f"OK copied {rows}", "OK done"])
+                before[index:end] = [(len(sizes) + 1, rows)]
+        expect(f"what stands of {what}", child.ask("0 STAT").split("\n")[1:], standing(before))
+    finally:
+        child.kill()
+        shutil.rmtree(folder)
+
+
+def levels_and_windows_are_as_worked_out(try_):
+    for factor, least, sizes, index in WINDOWS:
+        expect_window(try_, factor, least, sizes, index)
+
+
 TESTS = (
     several_segments_become_one,
     an_id_that_was_put_again_is_kept_once,
@@ -275,6 +389,7 @@ TESTS = (
     numbers_of_writes_may_be_large,
     damaged_sources_end_a_merge,
     a_full_segment_is_merged_of_64,
+    levels_and_windows_are_as_worked_out,
 )
 
 
