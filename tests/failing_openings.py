@@ -18,7 +18,7 @@ import commits
 from commits import WHOLE, commit, live, segment
 from faulty import NEVER, Faults, Faulty, can_stop_calls
 from limits import counted, u32, u64
-from tries import Wrong, expect, run, state
+from tries import expect, run, state
 
 SCHEMA = f"SCHEMA 2 10 {commits.SCHEMA}"
 OPENED = commits.told_replies(3, 9, (commits.LEFT, commits.MIDDLE, commits.RIGHT), commits.TEXTS)
@@ -140,8 +140,11 @@ def each_call_of_an_opening_fails(try_):
 
 
 def an_interrupted_call_of_an_opening_is_made_again(try_):
+    """Those of the folder, of the commit's own file and of one segment, which has a live file."""
     _, calls = try_.opened(try_.whole_but({}))
-    for passes in range(len(calls)):
+    for passes, (_, file) in enumerate(calls):
+        if file not in ("", "segments_3") and not file.startswith("_1"):
+            continue
         case = failure(calls, passes, False, errno.EINTR)
         folder = try_.whole_but({})
         told, made = try_.opened(folder, faults=Faults(passes, error=errno.EINTR))
@@ -282,7 +285,9 @@ def a_failing_device_is_no_damage(try_):
     folder = try_.whole_but({})
     judged, calls = try_.checked(folder)
     expect("a check", judged, (FOUND, 0, ""))
-    expect("what is read but the commit's file", sorted(file for kind, file in calls if kind == "read" and file != "segments_3"), sorted(it for it in WHOLE if it[-3:] in ("seg", "liv")))
+    # The commit's own file is read to be told, and again to be judged.
+    read = sorted(file for kind, file in calls if kind == "read")
+    expect("what is read", read, sorted([*(it for it in WHOLE if not it.endswith(".sto")), "segments_3"]))
     expect("the last calls", [file for _, file in calls[-6:]], ["_1.sto"] * 2 + ["_2.sto"] * 2 + ["_3.sto"] * 2)
     for passes, faults, case in ways(calls):
         judged, made = try_.checked(folder, faults=faults)
@@ -476,7 +481,10 @@ VIEW = (("1 CLOSE 9", "OK 9"), ("1 DEL none", "OK 10"), ("1 REFRESH", "OK 10"), 
 COMMIT = (("1 COMMIT", "OK 4"),)
 SEGMENTS = sorted(it for it in WHOLE if it.endswith((".seg", ".sto")))
 OWN = ["_1_2.liv", "_3_3.liv", "segments_3"]
-USERS = ((MERGE, []), (VIEW, []), (COMMIT, sorted(SEGMENTS + OWN))), ((MERGE, []), (COMMIT, OWN), (VIEW, SEGMENTS))
+USERS = (
+    ((MERGE, []), (VIEW, []), (COMMIT, sorted(SEGMENTS + OWN))),
+    ((MERGE, []), (COMMIT, OWN), (VIEW, SEGMENTS)),
+)
 
 
 def users_are_counted_by_name(try_):
@@ -507,7 +515,8 @@ def two_rows(number):
     """The file of a segment of rows a, of write 1 and price 1, and b, of write 2 and no price."""
     return (
         b"CSEG\1" + u64(number) + b"\0\0\0\2" b"\0\0\0\1" + counted(b"price") + b"\3"
-        b"\0\0\0\0\0\0\0\1" b"\0\0\0\1a" b"\0\0\0\x14" b"\0\0\0\0\0\0\0\2" b"\0\0\0\1b" b"\0\0\0\x0a" b"\1\0\0\0\0\0\0\0\1" b"\0"
+        b"\0\0\0\0\0\0\0\1" b"\0\0\0\1a" b"\0\0\0\x14" b"\0\0\0\0\0\0\0\2" b"\0\0\0\1b" b"\0\0\0\x0a"
+        b"\1\0\0\0\0\0\0\0\1" b"\0"
     )
 
 
@@ -521,7 +530,9 @@ def waiting(try_, **how):
 
 
 def expect_written(what, folder, number):
-    expect(f"the segment {what}", {it: state(folder)[it] for it in (f"_{number}.seg", f"_{number}.sto")}, {f"_{number}.seg": two_rows(number), f"_{number}.sto": TEXTS})
+    files = state(folder)
+    expect(f"the segment {what}", files.get(f"_{number}.seg"), two_rows(number))
+    expect(f"its texts {what}", files.get(f"_{number}.sto"), TEXTS)
 
 
 def written_by(try_, line):
@@ -537,7 +548,8 @@ def written_by(try_, line):
 
 def a_segment_that_fails_is_written_whole_by_the_next_try(try_):
     calls = written_by(try_, "1 REFRESH")
-    expect("what is made and written", [it for it in calls if it[0] != "open"], [(kind, f"_8.{end}") for end in ("seg", "sto") for kind in ("create", "write")])
+    made = [it for it in calls if it[0] != "open"]
+    expect("what is made and written", made, [(kind, f"_8.{end}") for end in ("seg", "sto") for kind in ("create", "write")])
     for passes, faults, case in ways(calls):
         folder, child = waiting(try_)
         try:
@@ -572,7 +584,9 @@ def a_segment_is_written_in_parts(try_):
                     continue
                 expect(f"a segment with {case}", told, "NO 30")
                 child.meet()
-                begun = {it: said for it, said in (("_8.seg", two_rows(8)[: 7 * passes]), ("_8.sto", TEXTS[: 7 * max(0, passes - 11)])) if passes >= 11 or it == "_8.seg"}
+                begun = {"_8.seg": two_rows(8)[: 7 * passes]}
+                if passes >= 11:
+                    begun["_8.sto"] = TEXTS[: 7 * (passes - 11)]
                 expect(f"what was begun with {case}", state(folder), begun)
                 expect(f"the next try behind {case}", child.ask("1 REFRESH"), "OK 2")
                 expect_written(f"behind {case}", folder, 9)
@@ -620,8 +634,10 @@ def merge_fails(try_, count, begun, faults, case):
         expect(f"the next merge behind {case}", [child.ask(line) for line, _, _ in MERGING], [reply for _, reply, _ in MERGING])
         expect_written(f"behind {case}", folder, 10)
         expect(f"a sweep behind {case}", child.ask("0 SWEEP"), f"OK {begun}")
-        expect(f"what is left behind {case}", names(folder), sorted(f"_{number}.{end}" for number in (7, 8, 10) for end in ("seg", "sto")))
-        expect(f"the texts behind {case}", child.say(["1 OPEN", "1 GET 2 a", "1 GET 2 b"])[1:], ['OK {"id":"a","price":1}', 'OK {"id":"b"}'])
+        left = sorted(f"_{number}.{end}" for number in (7, 8, 10) for end in ("seg", "sto"))
+        expect(f"what is left behind {case}", names(folder), left)
+        texts = child.say(["1 OPEN", "1 GET 2 a", "1 GET 2 b"])[1:]
+        expect(f"the texts behind {case}", texts, ['OK {"id":"a","price":1}', 'OK {"id":"b"}'])
     finally:
         child.kill()
 
