@@ -9,6 +9,7 @@ The last line is `N passed, M failed`.
 import subprocess
 import sys
 
+from commits import LAST, PRICE as PRICE_FIELD, commit
 from limits import Child
 from tries import expect, run, state
 
@@ -371,6 +372,37 @@ def a_folder_is_opened_at_its_second_commit(try_):
     try_.pass_over(folder, "OK 4", lines, fields=PRICE)
 
 
+# Two sessions have the view at the last number of writes, and give it back.
+LAST_TOKEN = (
+    ("0 OPEN", f"OK {LAST}"),
+    (f"1 FIND {LAST} 9 . . *:*", "NO 20"),
+    (f"0 FIND {LAST} 9 . . *:*", "OK 0 0"),
+    (f"1 OPEN {LAST}", f"OK {LAST}"),
+    (f"0 CLOSE {LAST - 1}", "NO 20"),
+    (f"0 CLOSE {LAST}", f"OK {LAST}"),
+    (f"0 CLOSE {LAST}", "NO 20"),
+    (f"0 FIND {LAST} 9 . . *:*", "NO 20"),
+    (f"1 FIND {LAST} 9 . . *:*", "OK 0 0"),
+    (f"1 CLOSE {LAST}", f"OK {LAST}"),
+    (f"1 FIND {LAST} 9 . . *:*", "NO 20"),
+)
+
+
+def a_right_may_be_to_the_last_token(try_):
+    """In turn and in threads. A token above it can't be told by a line."""
+    folder = try_.folder({"segments_1": commit(1, LAST, 1, (), fields=PRICE_FIELD)})
+    for words in ((), ("--threads", "3")):
+        child = Child(try_.program, "run", *words, str(folder))
+        try:
+            expect("the opening", child.ask(f"SCHEMA 2 10 {PRICE}"), f"OK {LAST}")
+            for line, reply in LAST_TOKEN:
+                expect(f"the reply to '{line}' with {words}", child.ask(line), reply)
+            expect("a token above", child.ask(f"1 OPEN {2**64 - 1}"), "NO 10")
+            expect("the end", child.end(), "status 0")
+        finally:
+            child.kill()
+
+
 TESTS = (
     a_day_in_memory,
     days_in_a_folder,
@@ -381,6 +413,7 @@ TESTS = (
     a_live_file_stays_while_a_commit_needs_it,
     a_snapshot_keeps_its_commit,
     a_folder_is_opened_at_its_second_commit,
+    a_right_may_be_to_the_last_token,
 )
 
 
