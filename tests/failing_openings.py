@@ -16,7 +16,7 @@ import tempfile
 
 import commits
 from commits import WHOLE, commit, live, segment
-from faulty import NEVER, Faults, Faulty, can_stop_calls
+from faulty import NEVER, Faults, Faulty, Memory, can_stop_calls
 from limits import counted, u32, u64
 from tries import expect, run, state
 
@@ -206,42 +206,34 @@ def a_lock_that_another_has_is_no_failure(try_):
 
 # Openings without memory.
 
-# Three segments of as many rows, which are more than the program has room for as it begins; all of the second are dead.
-EACH = 3_000
-LARGE = {"segments_1": commit(1, 3 * EACH, 4, ((1, 0), (2, 1), (3, 0)))}
-for number in (1, 2, 3):
-    LARGE[f"_{number}.seg"] = segment(number, tuple((it, b"i%d" % it, 1) for it in range((number - 1) * EACH + 1, number * EACH + 1)))
-    LARGE[f"_{number}.sto"] = b"x" * EACH
-LARGE["_2_1.liv"] = b"CLIV\1" + u64(2) + u64(1) + u32(EACH) + bytes(EACH // 8)
-
-
 def an_opening_that_finds_no_memory_changes_nothing(try_):
-    """Each request in turn, from when the program waits for its first line, is refused with all behind it, or alone: then the program
-    may find memory elsewhere."""
-    for is_all in (True, False):
-        refused = passes = 0
-        while passes == refused:
-            folder = try_.folder(LARGE)
-            child = try_.over(folder, memory=True)
-            try:
-                child.wait_until_it_reads()
-                child.starve(Faults(passes, is_all))
-                told, is_refused = child.ask(SCHEMA), child.requests > passes
-                child.starve()
-                ended = told, child.end(), child.complaint()
-            finally:
-                child.kill()
-            wanted = [("NO 40", "status 2", LOG)] if is_refused else []
-            if not is_refused or not is_all:
-                wanted.append((f"OK {3 * EACH}", "status 0", ""))
-            expect(f"whether an opening that is refused request {passes} answers {ended}", ended in wanted, True)
-            expect(f"the files behind request {passes}", state(folder) == LARGE, True)
-            told = try_.replies(folder, ["0 STAT"])
-            stands = [f"0 {number} {EACH} {rows}" for number, rows in ((1, EACH), (2, 0), (3, EACH))]
-            expect(f"what is read behind request {passes}", told, [f"OK {3 * EACH}", f"0 OK {3 * EACH} 0 3 1 0 0", *stands])
-            passes += 1
-            refused += is_refused
-        expect("whether memory was asked for", refused > 0, True)
+    """Each allocation in turn is refused alone, from when the program waits for its first line; and each fifth with all behind it."""
+    for is_all, step in ((False, 1), (True, 5)):
+        passes = 0
+        while is_refused_memory(try_, passes, is_all):
+            passes += step
+        expect("whether memory was asked for", passes > 0, True)
+
+
+def is_refused_memory(try_, passes, is_all):
+    """Whether an opening asks for so much memory that this is refused. Of a list that grows less may do than was asked for first."""
+    folder = try_.whole_but({})
+    child = try_.over(folder, memory=Memory())
+    try:
+        child.wait_until_it_reads()
+        child.memory = Memory(passes, is_all)
+        told, is_refused = child.ask(SCHEMA), child.memory.refused > 0
+        child.memory = Memory()
+        ended = told, child.end(), child.complaint()
+    finally:
+        child.kill()
+    wanted = ("OK 9", "status 0", "")
+    if is_refused and (is_all or ended != wanted):
+        wanted = ("NO 40", "status 2", LOG)
+    expect(f"an opening that is refused allocation {passes}", ended, wanted)
+    expect(f"the files behind allocation {passes}", state(folder), WHOLE)
+    try_.expect_read(f"allocation {passes}", folder)
+    return is_refused
 
 
 # Checks.
