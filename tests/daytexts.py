@@ -9,6 +9,7 @@ import re
 import shlex
 from dataclasses import dataclass, field
 from pathlib import Path
+from typing import Optional
 
 import counted
 import pages
@@ -39,7 +40,7 @@ class Start:
     """A start of the program: its arguments, or None where it is to be tried both in memory and over a new folder; the files that
     are written before it; the lines that it is told; and the replies."""
 
-    words: list | None
+    words: Optional[list]
     files: list = field(default_factory=list)
     lines: list = field(default_factory=list)
     replies: list = field(default_factory=list)

@@ -29,6 +29,19 @@ else
   begin 'tests/chores.py' tests/chores.py "$program"
   begin 'tests/callers.py' tests/callers.py "$program"
   begin 'tests/streams.py' tests/streams.py "$program"
+  begin 'tests/thrown_days.py' tests/thrown_days.py "$program"
+  begin 'tests/at_once.py' tests/at_once.py "$program"
+  # What stops the program's calls of the system.
+  if python3 tests/faulty.py; then
+    begin 'tests/folders.py' tests/folders.py "$program"
+    begin 'tests/failing_ledgers.py' tests/failing_ledgers.py "$program"
+    begin 'tests/failing_shifts.py' tests/failing_shifts.py "$program"
+    begin 'tests/failing_openings.py' tests/failing_openings.py "$program" "$check"
+    begin 'tests/failing_folders.py' tests/failing_folders.py "$program" "$check"
+    begin 'tests/failing_streams.py' tests/failing_streams.py "$program"
+  else
+    echo "left out, as this system lets no process stop the calls of its child: tests/folders.py and tests/failing_*.py, in which calls of the system fail" >&2
+  fi
   if [ -x tests/limits.py ]; then begin 'tests/limits.py' tests/limits.py "$program"; fi
   begin 'tests/large.py' tests/large.py "$program"
   if [ -x tests/folder.py ]; then begin 'tests/folder.py' tests/folder.py "$program" "$check"; fi

@@ -8,6 +8,7 @@ A file keeps all rules of the format, or breaks one by itself: then the check sa
 and an opening is refused by 31. Each try has a folder of its own. The last line is `N passed, M failed`.
 """
 
+import json
 import sys
 
 from commits import Try, commit, fields_of, segment, turned
@@ -366,8 +367,43 @@ def live_rows_are_as_many_as_those_of_a_segment(try_):
     expect("all but one", are_live(try_, head + u32(262_144) + b"\xff" * 32_767 + b"\x7f"), True)
 
 
+# Texts, each with its words in byte order.
+WORDS = (
+    ("", ()),
+    (" -\t.", ()),
+    ("Red-Shoe 42é red", ("42é", "red", "shoe")),
+    ("  a-A b ", ("a", "b")),
+    ("b2 B10 b1", ("b1", "b10", "b2")),
+    ("éa ÀÉ", ("ÀÉ", "éa")),
+    ("snake_case", ("case", "snake")),
+    ("naïve naive", ("naive", "naïve")),
+    ("日本 日本語", ("日本", "日本語")),
+    # Bytes at either side of digits and letters, and the first and the last characters past ASCII.
+    ("/0:9;", ("0", "9")),
+    ("@A[Z`a{z~\x7f", ("a", "z")),
+    ("a\x80b c\U0010ffff", ("a\x80b", "c\U0010ffff")),
+    # No letters past ASCII are lowered, and no spaces past ASCII part words.
+    ("ÉÀ\xa0É", ("ÉÀ\xa0É",)),
+    ("x" * 8_171, ("x" * 8_171,)),
+)
+
+
+def a_text_has_these_words(try_):
+    """They stand in the column of a segment's file, each once, with the one row."""
+    for text, words in WORDS:
+        folder = try_.folder()
+        # Control characters stand in an item as escapes.
+        item = json.dumps({"id": "a", "t": text}, ensure_ascii=False, separators=(",", ":"))
+        told = try_.replies(folder, [f"1 PUT {item}", "1 COMMIT"], '{"t":"text"}')
+        expect(f"a commit of {text[:40]!r}", told, ["OK 0", "1 OK 1", "1 OK 1"])
+        head = segment(1, ((1, b"a", len(item.encode())),), fields_of((b"t", 1)))[:-8]
+        column = u32(len(words)) + b"".join(counted(word.encode()) + u32(1) + u32(0) for word in words)
+        expect(f"the file of {text[:40]!r}", state(folder)["_1.seg"], head + column)
+
+
 TESTS = (
     a_segment_has_these_bytes,
+    a_text_has_these_words,
     every_byte_of_a_segment_counts,
     a_segment_keeps_all_rules_or_is_damaged,
     segments_reach_their_limits,

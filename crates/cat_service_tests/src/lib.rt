@@ -1,16 +1,14 @@
-//! Tests of replies, of serving, and of whole inputs, served: by readers and writers that fail, and where memory is wanting. What lines
-//! are answered is compared with a catalogue in plain lists.
+//! Tests of what no line of the program shows: the service compared with a catalogue in plain lists, callers in threads that wait
+//! for each other, the text of every reply, and what refusals show.
 #![tactic(auto)]
 
 #[cfg(test)]
 mod compared;
-pub mod inputs;
 pub mod plain;
 #[cfg(test)]
-mod replies;
-pub mod serving;
+mod refusals;
 #[cfg(test)]
-mod streams;
+mod replies;
 #[cfg(test)]
 mod threads;
 #[cfg(test)]

@@ -1,7 +1,9 @@
-//! What each refusal shows, and that a bare `?` lifts want of memory.
+//! What each refusal shows, and that a bare `?` lifts want of memory: no line shows either, and no contract says the sentences.
+use crate::verdict::expect_none;
 use cat_base::Refusal;
 use std::alloc::{AllocError, Global};
 use std::sync::Arc;
+use std::test::Fail;
 
 // Each refusal, its number, and the sentence that it shows.
 const SHOWN: &[(Refusal, u8, &str)] = &[
@@ -113,9 +115,14 @@ fn are_two_of(words: &[Arc<String>], word: &str) -> bool {
 }
 
 /// What isn't so of refusals.
-pub(super) fn failing(alloc: Global) -> Result<Option<&'static str>, Refusal> {
+fn failing(alloc: Global) -> Result<Option<&'static str>, Refusal> {
     if !are_two_of(&shared(alloc, "red")?, "red") {
         return Ok(Some("words are shared by a bare question mark"));
     }
     Ok(shown_otherwise(alloc, SHOWN)?)
+}
+
+#[test]
+fn each_refusal_shows_its_sentence(rt: HostRuntime) -> Result<(), Fail> {
+    expect_none(failing(rt.alloc()))
 }
