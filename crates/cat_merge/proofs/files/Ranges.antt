@@ -1,7 +1,7 @@
 -- What was read of ranges, and what a merge has copied by them.
 use Rattle.std.proofs.lemmas.Result.{IfErr-weaker}
 use Rattle.cat_directory.specs.Frames.{FailsReading}
-use Rattle.cat_base.specs.declared.refusal.Refusal.TheVariants.{Device}
+use Rattle.cat_base.specs.declared.refusal.Refusal.TheVariants.{Device, Memory}
 use Rattle.std.proofs.Common.{◌≡◌, ◌≢◌, ℕ, zero, suc, ◌+◌, ◌-◌, ◌<◌, ◌≤◌, List, [], ◌∷◌, ◌++◌, length, get_or, take, drop, map, replicate, Some, None, Result, Ok, Err, IfErr, refl, sym, ◌∙◌, ap, ap₂, subst, arith, zero-add, inl, inr, true, false, Bool}
 use Rattle.std.specs.Prelude.{IsErr, IsErrAnd, Any, min, sum, IfOk, OnOk}
 use Rattle.std.specs.List.{flat_map}
@@ -71,6 +71,12 @@ fails_after {S} {X} {can_fail} {faults} {a} {b} {c} {r} can same f = record {
 
 pub writing_counted : {T : Type 0} (old new : ℕ) (r : Result T Refusal) (e : Refusal) → IsErr r × IsErrAnd r (λ x. x ≡ e) → WritingCount old new e → CountsWriting old new r
 writing_counted old new r e so counted = subst (λ (r : Result _ Refusal). CountsWriting old new r) (sym (fault_is r e so)) counted
+
+-- what a call that writes counts, one that reads may count too
+pub reading_of : (old new : ℕ) (e : Refusal) → WritingCount old new e → ReadingCount old new e
+reading_of old new Memory counted = counted
+reading_of old new Device counted = counted
+reading_of old new e counted = absurd counted
 
 -- a file that was written is told with its bytes
 pub written_told : (t t' : Told) (bytes : Text) → t' ≡ told_after (file_written bytes) t → IsTold t' (Some bytes)

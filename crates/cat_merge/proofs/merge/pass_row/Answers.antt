@@ -1,7 +1,8 @@
-use Rattle.std.proofs.Common.{◌++◌, ◌∙◌, ap, arith, length, take}
+use Rattle.std.proofs.Common.{◌++◌, ◌∙◌, sym, ap, arith, length, take}
 use Rattle.std.specs.List.{flat_map}
 use Rattle.std.proofs.Math.Seq.{take-append_seam}
 use Rattle.std.proofs.lemmas.List.{take_all}
+use Rattle.std.proofs.lemmas.Result.{IfOk-from_err}
 use Rattle.cat_merge.specs.Copied.{bytes_in, no_row}
 use Rattle.cat_merge.proofs.RowPassed.{no_head, no_source, one_head, one_source}
 use Rattle.cat_merge.proofs.merge.pass_row.Goals as goal
@@ -44,3 +45,44 @@ returns-else-is_live-clause-within c = λ h. h
 
 pub returns-else-is_live-clause-front : goal.returns-else-is_live-clause-front
 returns-else-is_live-clause-front c = take_all (length c.args.kept.now.items) c.args.kept.now.items (omega arith)
+
+pub returns-in_err-of-clause-kept : goal.returns-in_err-of-clause-kept
+returns-in_err-of-clause-kept c = IfOk-from_err _ _ c.from_residual.ensures.0
+
+pub returns-in_err-of-clause-ranges : goal.returns-in_err-of-clause-ranges
+returns-in_err-of-clause-ranges c = IfOk-from_err _ _ c.from_residual.ensures.0
+
+pub returns-in_err-of-clause-apart : goal.returns-in_err-of-clause-apart
+returns-in_err-of-clause-apart c = IfOk-from_err _ _ c.from_residual.ensures.0
+
+pub returns-in_err-of-clause-within : goal.returns-in_err-of-clause-within
+returns-in_err-of-clause-within c = IfOk-from_err _ _ c.from_residual.ensures.0
+
+pub returns-in_err-push-clause-kept : goal.returns-in_err-push-clause-kept
+returns-in_err-push-clause-kept c = IfOk-from_err _ _ c.from_residual-in_err-push.ensures.0
+
+pub returns-in_err-push-clause-ranges : goal.returns-in_err-push-clause-ranges
+returns-in_err-push-clause-ranges c = IfOk-from_err _ _ c.from_residual-in_err-push.ensures.0
+
+pub returns-in_err-push-clause-apart : goal.returns-in_err-push-clause-apart
+returns-in_err-push-clause-apart c = IfOk-from_err _ _ c.from_residual-in_err-push.ensures.0
+
+pub returns-in_err-push-clause-within : goal.returns-in_err-push-clause-within
+returns-in_err-push-clause-within c = IfOk-from_err _ _ c.from_residual-in_err-push.ensures.0
+
+pub returns-in_err-add_source-clause-kept : goal.returns-in_err-add_source-clause-kept
+returns-in_err-add_source-clause-kept c = IfOk-from_err _ _ c.from_residual-in_err-add_source.ensures.0
+
+pub returns-in_err-add_source-clause-ranges : goal.returns-in_err-add_source-clause-ranges
+returns-in_err-add_source-clause-ranges c = IfOk-from_err _ _ c.from_residual-in_err-add_source.ensures.0
+
+pub returns-in_err-add_source-clause-apart : goal.returns-in_err-add_source-clause-apart
+returns-in_err-add_source-clause-apart c = IfOk-from_err _ _ c.from_residual-in_err-add_source.ensures.0
+
+pub returns-in_err-add_source-clause-within : goal.returns-in_err-add_source-clause-within
+returns-in_err-add_source-clause-within c = IfOk-from_err _ _ c.from_residual-in_err-add_source.ensures.0
+
+pub returns-in_ok-add_source-clause-within : goal.returns-in_ok-add_source-clause-within
+returns-in_ok-add_source-clause-within c = λ are.
+    c.in_ok-add_source.ensures.within c.args.inputs.now are
+    (c.args.place.input, c.index-inputs-place.result, c.requires.input, sym c.index-inputs-place.is, sym c.segment-then-is_live.ensures)

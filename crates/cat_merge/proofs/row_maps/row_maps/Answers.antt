@@ -1,5 +1,6 @@
-use Rattle.std.proofs.Common.{◌+◌, map, arith, ap, ◌∙◌}
+use Rattle.std.proofs.Common.{◌+◌, map, refl, arith, ap, ◌∙◌}
 use Rattle.std.proofs.lemmas.List.{map_push, take_all}
+use Rattle.std.proofs.lemmas.Result.{IfOk-from_err}
 use Rattle.cat_merge.specs.Maps.{codes_of}
 use Rattle.cat_merge.proofs.Codes.{maps_more, counts_more, counts_fit, length-codes_of}
 use Rattle.cat_merge.proofs.row_maps.row_maps.Goals as goal
@@ -36,3 +37,15 @@ pub returns : goal.returns
 returns c = record {
   ok = c.loop-input.invariant.maps ∙ take_all c.loop-input.input-index (codes_of 0 c.args.inputs.now) (omega (arith, length-codes_of 0 c.args.inputs.now));
 }
+
+pub loop-input-init : goal.loop-input-init
+loop-input-init c = record { maps = ap (map (λ m. m.items)) c.in_ok-maps.ensures.items; first = refl }
+
+pub returns-in_err-maps : goal.returns-in_err-maps
+returns-in_err-maps c = record { ok = IfOk-from_err _ _ c.from_residual.ensures.0 }
+
+pub returns-in_err-row_map : goal.returns-in_err-row_map
+returns-in_err-row_map c = record { ok = IfOk-from_err _ _ c.from_residual-in_err-row_map.ensures.0 }
+
+pub returns-in_err-push : goal.returns-in_err-push
+returns-in_err-push c = record { ok = IfOk-from_err _ _ c.from_residual-in_err-push.ensures.0 }

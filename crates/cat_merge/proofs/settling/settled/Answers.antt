@@ -1,12 +1,13 @@
-use Rattle.std.proofs.Common.{◌≡◌, ℕ, ◌+◌, ◌-◌, ◌++◌, ◌<◌, Bool, true, List, [], length, map, take, replicate, get_or, arith, sym, ap, ap₂, ◌∙◌}
+use Rattle.std.proofs.Common.{◌≡◌, ℕ, ◌+◌, ◌-◌, ◌++◌, ◌<◌, Bool, true, List, [], length, map, take, drop, replicate, get_or, arith, sym, ap, ap₂, ◌∙◌}
 use Rattle.std.specs.Borrow.{Bor}
-use Rattle.std.proofs.lemmas.List.{length-map, get_or-map, get_or_read}
+use Rattle.std.proofs.lemmas.List.{drop_at, length-map, get_or-map, get_or_read}
+use Rattle.std.proofs.lemmas.Result.{IfOk-from_err}
 use Rattle.cat_model.specs.Merged.{AreDeletedFrom}
 use Rattle.cat_model.specs.View.{Leaf, selected}
 use Rattle.cat_merge.specs.Merging.{with_live}
 use Rattle.cat_merge.specs.Places.{no_leaf}
 use Rattle.cat_merge.proofs.Passed.{live_few}
-use Rattle.cat_merge.proofs.Settled.{deleted_at, input_long, input_room, input_settled, settled_end}
+use Rattle.cat_merge.proofs.Settled.{deleted_at, input_long, input_room, input_settled, settled_end, settled_of}
 use Rattle.cat_merge.proofs.settling.settled.Goals as goal
 
 abbrev lives_of : List (Bor (List Bool)) → List (List Bool)
@@ -75,3 +76,14 @@ returns c = record {
   ok = settled_end c.args.inputs.now (lives_of c.args.now.now) c.loop-index.index c.loop-index.next c.loop-index.live c.requires.inputs c.requires.deleted (omega arith)
       c.loop-index.invariant.next c.loop-index.invariant.live;
 }
+
+pub settle_input-next-requires-clause-all : goal.settle_input-next-requires-clause-all
+settle_input-next-requires-clause-all c =
+    let settled : List Bool = settled_of c.args.inputs.now (lives_of c.args.now.now) c.loop-index.index in
+    let long = input_long c.args.inputs.now (lives_of c.args.now.now) c.requires.deleted c.loop-index.index (omega arith) c.requires.inputs c.loop-index.live c.loop-index.next
+    c.loop-index.invariant.next c.loop-index.invariant.live in
+    ap (drop c.loop-index.next) c.loop-index.invariant.live ∙ drop_at settled _ c.loop-index.next (sym c.loop-index.invariant.next)
+    ∙ ap (λ (n : ℕ). replicate (n - c.loop-index.next) true) (sym long)
+
+pub returns-in_err-live : goal.returns-in_err-live
+returns-in_err-live c = record { ok = IfOk-from_err _ _ c.from_residual.ensures.0 }

@@ -1,11 +1,11 @@
-use Rattle.std.proofs.Common.{◌≡◌, ◌∙◌, length, Some, None, inl, inr, sym, ap}
+use Rattle.std.proofs.Common.{◌≡◌, ◌∙◌, ℕ, length, Some, None, inl, inr, sym, ap, subst}
 use Rattle.std.specs.Prelude.{◌⊎◌, Any}
 use Rattle.cat_base.specs.declared.refusal.Refusal.{Refusal}
 use Rattle.cat_base.specs.declared.refusal.Refusal.TheVariants.{Damaged, Device, Memory}
-use Rattle.cat_directory.specs.Devices.{extended, told_after}
+use Rattle.cat_directory.specs.Devices.{ReadingCount, WritingCount, extended, told_after}
 use Rattle.cat_ledger_laws.specs.shape.Ties.{ToldFiles}
 use Rattle.cat_merge.specs.files.Sources.{AreAppended, IsCutOff}
-use Rattle.cat_merge.proofs.files.Ranges.{counts_passed, not_done, passed}
+use Rattle.cat_merge.proofs.files.Ranges.{counts_passed, not_done, passed, reading_of}
 use Rattle.cat_merge.proofs.files.sources.copy_ranges.Goals as goal
 
 pub returns-in_err-bytes : goal.returns-in_err-bytes
@@ -41,6 +41,20 @@ returns-in_err-append-clause-device g c =
       | inl fails ↦ inl (c.in_ok-bytes.ensures.frame.can fails)
       | inr absent ↦ inr (sym (c.in_ok-bytes.ensures.frame.same c.args.to) ∙ absent)
     ])
+
+pub returns-in_err-append-clause-ok : goal.returns-in_err-append-clause-ok
+returns-in_err-append-clause-ok g c = not_done _ _ _ c.from_residual-in_err-append.ensures
+
+pub returns-in_err-append-clause-damaged : goal.returns-in_err-append-clause-damaged
+returns-in_err-append-clause-damaged g c =
+    passed (λ (e : Refusal). e ≡ Damaged → Any (IsCutOff (g.D.Holder.bytes c.args.device.now)) c.args.ranges.now) _ _ c.from_residual-in_err-append.ensures
+    (λ is. absurd (subst (WritingCount (g.D.Holder.fault_count c.read_ranges.new.shelf) (g.D.Holder.fault_count c.append.new.self)) is c.in_err-append.ensures.counted))
+
+pub returns-in_err-append-clause-counted : goal.returns-in_err-append-clause-counted
+returns-in_err-append-clause-counted g c =
+    counts_passed (g.D.Holder.fault_count c.args.device.now) (g.D.Holder.fault_count c.append.new.self) _ _ c.from_residual-in_err-append.ensures
+    (subst (λ (n : ℕ). ReadingCount n (g.D.Holder.fault_count c.append.new.self) c.in_err-append.field-0.0) c.in_ok-bytes.ensures.fails.counted
+    (reading_of (g.D.Holder.fault_count c.read_ranges.new.shelf) (g.D.Holder.fault_count c.append.new.self) c.in_err-append.field-0.0 c.in_err-append.ensures.counted))
 
 pub returns-in_err-append-clause-can : goal.returns-in_err-append-clause-can
 returns-in_err-append-clause-can g c = λ fails. c.in_ok-bytes.ensures.frame.can (c.in_err-append.ensures.can fails)
