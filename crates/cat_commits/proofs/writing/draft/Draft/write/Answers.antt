@@ -1,15 +1,17 @@
-use Rattle.std.proofs.Common.{◌≡◌, ◌≢◌, List, ◌∷◌, map, Some, None, AllPairs, IfErr, sym, ap, ap₂, ◌∙◌, subst, inl, inr}
+use Rattle.std.proofs.Common.{◌≡◌, ◌≢◌, ℕ, List, ◌∷◌, map, Some, None, Result, Ok, Err, AllPairs, IfErr, refl, sym, ap, ap₂, ◌∙◌, subst, inl, inr}
 use Rattle.std.specs.Prelude.{◌⊎◌, false, true, All}
 use Rattle.std.specs.List.{AllByRecursion}
 use Rattle.std.proofs.lemmas.Result.{on_ok_weaker, IfErr-weaker}
-use Rattle.cat_base.specs.declared.refusal.Refusal.TheVariants.{Device}
+use Rattle.cat_base.specs.declared.refusal.Refusal.TheVariants.{Device, Memory}
+use Rattle.cat_base.specs.declared.refusal.Refusal.{Refusal}
 use Rattle.cat_model.specs.Files.{Name, IsFileName}
+use Rattle.cat_directory.specs.Devices.{CountsWriting, WritingCount}
 use Rattle.cat_directory.specs.declared.name.FileName.{FileName}
 use Rattle.cat_directory.specs.declared.name.FileName.TheVariants as file
 use Rattle.cat_directory.specs.Names.{name_of}
 use Rattle.cat_ledger_laws.specs.model.Users.{has_name, same_file_name}
 use Rattle.cat_ledger_laws.specs.shape.Ties.{TouchesOnly}
-use Rattle.cat_commits.specs.writing.NewFiles.{IsUntouched, NewBytes, names_of, IsWritten, NoMoreBut, AreSettled, OnlyTorn}
+use Rattle.cat_commits.specs.writing.NewFiles.{ComesLast, IsUntouched, NewBytes, names_of, IsWritten, NoMoreBut, AreSettled, OnlyTorn}
 use Rattle.cat_model.specs.CommitFile.{spelled_commit}
 use Rattle.cat_commits.specs.writing.Unsynced.{begun}
 use Rattle.cat_commits.specs.writing.Drafts.{Drafted, HasNewFile, OwnComesBehind}
@@ -97,3 +99,32 @@ returns-clause-torn g c =
     subst (λ (s : Drafted). OnlyTorn (file.Commit s.commit.generation) (spelled_commit s.commit) told left left') c.self.view_is
     (subst (λ (q : FileName). OnlyTorn q (spelled_commit c.self.inside.commit) told left left') c.self.invariant.named
     (subst (λ bytes. OnlyTorn c.self.inside.own.name bytes told left left') c.self.invariant.spelled.spelled c.write_in_order.ensures.torn))
+
+pub returns-clause-order : goal.returns-clause-order
+returns-clause-order g c =
+    let told = g.D.Holder.bytes c.args.device.now in
+    let told' = g.D.Holder.bytes c.write_in_order.new.device in
+    let left = g.D.Holder.may_leave c.args.device.now in
+    let left' = g.D.Holder.may_leave c.write_in_order.new.device in
+    subst (λ (s : Drafted). ComesLast (file.Commit s.commit.generation) s.unsynced told told' left left') c.self.view_is
+    (subst (λ (q : FileName). ComesLast q (map name_of c.self.inside.unsynced.items) told told' left left') c.self.invariant.named
+    (subst (λ (ns : List FileName). ComesLast c.self.inside.own.name (map name_of ns) told told' left left') c.deref-2.ensures.value c.write_in_order.ensures.order))
+
+-- a call that writes is refused for nothing else
+writing_kind : (old new : ℕ) (e : Refusal) → WritingCount old new e → (e ≡ Memory) ⊎ (e ≡ Device)
+writing_kind old new Memory counted = inl refl
+writing_kind old new Device counted = inr refl
+writing_kind old new e counted = absurd counted
+
+kinds : {X : Type 0} (old new : ℕ) (r : Result X Refusal) → CountsWriting old new r → IfErr r (λ e. (e ≡ Memory) ⊎ (e ≡ Device))
+kinds old new (Ok x) counted = tt
+kinds old new (Err e) counted = writing_kind old new e counted
+
+pub returns-clause-refusal : goal.returns-clause-refusal
+returns-clause-refusal g c = kinds (g.D.Holder.fault_count c.args.device.now) (g.D.Holder.fault_count c.write_in_order.new.device) c.write_in_order.result c.write_in_order.ensures.counted
+
+pub returns-clause-can : goal.returns-clause-can
+returns-clause-can g c = c.write_in_order.ensures.can
+
+pub returns-clause-counted : goal.returns-clause-counted
+returns-clause-counted g c = c.write_in_order.ensures.counted
