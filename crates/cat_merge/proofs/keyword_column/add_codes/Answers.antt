@@ -1,3 +1,5 @@
+use Rattle.std.proofs.lemmas.List.{append-nil}
+use Rattle.std.proofs.lemmas.Result.{IfOk-from_err}
 use Rattle.std.proofs.Common.{◌++◌, ◌∷◌, [], ℕ, get_or, None, sym, ap, ◌∙◌, arith}
 use Rattle.cat_model.specs.Layout.{code_in}
 use Rattle.cat_merge.specs.Coded.{moved_code}
@@ -35,3 +37,9 @@ loop-row-preserved c = elim c.if-is_live.branch [
       row_left (code_in c.args.words.now) c.args.live.now c.args.values.now c.args.codes.now.items c.loop-row.codes.items c.if-is_live.codes.items c.loop-row.row None c.requires.long there.0
       c.loop-row.invariant (sym c.is_live.ensures ∙ w.if-is_live.false) (ap (λ v. v.items) w.codes-is)
 ]
+
+pub loop-row-init : goal.loop-row-init
+loop-row-init c = sym (append-nil c.args.codes.now.items)
+
+pub returns-in_err-push : goal.returns-in_err-push
+returns-in_err-push c = IfOk-from_err _ _ c.from_residual.ensures.0

@@ -1,3 +1,4 @@
+use Rattle.std.proofs.lemmas.Result.{IfOk-from_err}
 use Rattle.std.proofs.Common.{◌≡◌, List, ℕ, map, take, Some, Option, sym, ap, ap₂, ◌∙◌, subst, arith}
 use Rattle.std.specs.List.{flat_map}
 use Rattle.std.specs.Prelude.{All}
@@ -47,3 +48,12 @@ returns c =
           ∙ ap (λ ks. Laid.keywords (keywords_of ks) (map (code_in (keywords_of ks)) ks)) (sym (read_seen keyword_in c.args.index (kept_rows c.args.inputs.now)));
       words = λ e. absurd (cc);
     }
+
+pub returns-in_err-codes : goal.returns-in_err-codes
+returns-in_err-codes c = IfOk-from_err _ _ c.from_residual.ensures.0
+
+pub returns-in_err-add_input : goal.returns-in_err-add_input
+returns-in_err-add_input c = IfOk-from_err _ _ c.from_residual-in_err-add_input.ensures.0
+
+pub returns-in_err-copied : goal.returns-in_err-copied
+returns-in_err-copied c = IfOk-from_err _ _ c.from_residual-in_err-copied.ensures.0

@@ -1,3 +1,5 @@
+use Rattle.std.proofs.lemmas.List.{append-nil}
+use Rattle.std.proofs.lemmas.Result.{IfOk-from_err}
 use Rattle.std.proofs.Common.{◌<◌, ◌++◌, ◌∷◌, [], List, ℕ, length, map, get_or, sym, ap, ◌∙◌, arith}
 use Rattle.std.specs.Prelude.{All, Contains, slice_index}
 use Rattle.cat_model.specs.Layout.{ordinal_in}
@@ -24,3 +26,9 @@ loop-row-preserved c = elim c.if-is_live.branch [
       row_left (map (ordinal_in c.args.words.now)) c.args.live.now c.args.labels.now c.args.rows.now c.loop-row.rows c.if-is_live.rows c.loop-row.row [] c.requires.long (omega arith)
       c.loop-row.invariant (sym c.is_live.ensures ∙ w.if-is_live.false) w.rows-is
 ]
+
+pub loop-row-init : goal.loop-row-init
+loop-row-init c = sym (append-nil c.args.rows.now)
+
+pub returns-in_err-push_found : goal.returns-in_err-push_found
+returns-in_err-push_found c = IfOk-from_err _ _ c.from_residual.ensures.0

@@ -1,3 +1,4 @@
+use Rattle.std.proofs.lemmas.Result.{IfOk-from_err}
 use Rattle.std.proofs.Common.{◌<◌, ◌++◌, ◌∷◌, [], List, ℕ, length, map, get_or, sym, ap, ap₂, ◌∙◌, arith}
 use Rattle.std.proofs.lemmas.List.{length-map, get_or-map, map_push, map_more, take_more, take_all}
 use Rattle.cat_model.specs.Text.{Text}
@@ -26,3 +27,9 @@ loop-place-preserved c =
 
 pub returns-clause-maps : goal.returns-clause-maps
 returns-clause-maps c = c.loop-place.invariant.maps ∙ take_all c.loop-place.place (codes_of 0 c.args.inputs.now) (omega (arith, length-codes_of 0 c.args.inputs.now))
+
+pub returns-in_err-parts : goal.returns-in_err-parts
+returns-in_err-parts c = record { terms = IfOk-from_err _ _ c.from_residual.ensures.0; maps = IfOk-from_err _ _ c.from_residual.ensures.0 }
+
+pub returns-in_err-push : goal.returns-in_err-push
+returns-in_err-push c = record { terms = IfOk-from_err _ _ c.from_residual-in_err-push.ensures.0; maps = IfOk-from_err _ _ c.from_residual-in_err-push.ensures.0 }

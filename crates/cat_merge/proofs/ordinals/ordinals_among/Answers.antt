@@ -1,3 +1,4 @@
+use Rattle.std.proofs.lemmas.Result.{IfOk-from_err}
 use Rattle.std.proofs.Common.{◌≡◌, ◌+◌, ◌<◌, ◌^◌, ◌++◌, ◌∷◌, [], List, ℕ, take, sym, ap, ◌∙◌, subst, arith}
 use Rattle.std.proofs.lemmas.List.{take_more, take_all}
 use Rattle.std.proofs.lemmas.List.Elements.{All-push}
@@ -26,3 +27,9 @@ returns c = record {
   ok = subst (λ (l : List Text). AreOrdinalsAmong c.args.words.now l c.loop-text.ordinals.items) (take_all c.loop-text.text-index c.args.texts.now (omega arith)) c.loop-text.invariant.ordinals;
   bound = c.loop-text.invariant.bound;
 }
+
+pub returns-in_err-ordinals : goal.returns-in_err-ordinals
+returns-in_err-ordinals c = record { ok = IfOk-from_err _ _ c.from_residual.ensures.0; bound = IfOk-from_err _ _ c.from_residual.ensures.0 }
+
+pub returns-in_err-push : goal.returns-in_err-push
+returns-in_err-push c = record { ok = IfOk-from_err _ _ c.from_residual-in_err-push.ensures.0; bound = IfOk-from_err _ _ c.from_residual-in_err-push.ensures.0 }

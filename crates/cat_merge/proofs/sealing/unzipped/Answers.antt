@@ -1,3 +1,4 @@
+use Rattle.std.proofs.lemmas.Result.{IfOk-from_err}
 use Rattle.std.proofs.Common.{◌+◌, ◌++◌, ◌∷◌, [], List, ℕ, length, append_assoc, sym, ap, ap₂, ◌∙◌}
 use Rattle.std.proofs.lemmas.List.{length_push}
 use Rattle.cat_items.specs.file_parts.Parts.{heads_in}
@@ -18,3 +19,15 @@ loop-row-preserved c = record {
   lengths = ap length c.in_ok-unzip.ensures.lengths ∙ length_push c.loop-row.lengths.items c.in-Some.row.length ∙ ap (λ n. n + 1) c.loop-row.invariant.lengths
       ∙ sym (length_push c.loop-row.numbers.items c.in-Some.row.number) ∙ ap length (sym c.in_ok-unzip.ensures.numbers);
 }
+
+pub returns-in_err-numbers : goal.returns-in_err-numbers
+returns-in_err-numbers c = record { heads = IfOk-from_err _ _ c.from_residual.ensures.0; ids = IfOk-from_err _ _ c.from_residual.ensures.0; lengths = IfOk-from_err _ _ c.from_residual.ensures.0 }
+
+pub returns-in_err-ids : goal.returns-in_err-ids
+returns-in_err-ids c = record { heads = IfOk-from_err _ _ c.from_residual-in_err-ids.ensures.0; ids = IfOk-from_err _ _ c.from_residual-in_err-ids.ensures.0; lengths = IfOk-from_err _ _ c.from_residual-in_err-ids.ensures.0 }
+
+pub returns-in_err-lengths : goal.returns-in_err-lengths
+returns-in_err-lengths c = record { heads = IfOk-from_err _ _ c.from_residual-in_err-lengths.ensures.0; ids = IfOk-from_err _ _ c.from_residual-in_err-lengths.ensures.0; lengths = IfOk-from_err _ _ c.from_residual-in_err-lengths.ensures.0 }
+
+pub returns-in_err-unzip : goal.returns-in_err-unzip
+returns-in_err-unzip c = record { heads = IfOk-from_err _ _ c.from_residual-in_err-unzip.ensures.0; ids = IfOk-from_err _ _ c.from_residual-in_err-unzip.ensures.0; lengths = IfOk-from_err _ _ c.from_residual-in_err-unzip.ensures.0 }

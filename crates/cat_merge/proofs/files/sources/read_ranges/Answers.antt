@@ -1,15 +1,16 @@
+use Rattle.std.proofs.lemmas.Result.{IfOk-from_err}
 use Rattle.cat_merge.specs.Copied.{bytes_in}
 use Rattle.std.proofs.lemmas.List.{take_all}
 use Rattle.std.specs.List.{flat_map}
 use Rattle.std.proofs.Common.{◌≡◌, ◌++◌, get_or, ◌∙◌, ap, List, length, map, take, arith}
 use Rattle.std.specs.Prelude.{Any, sum}
 use Rattle.cat_base.specs.declared.refusal.Refusal.{Refusal}
-use Rattle.cat_base.specs.declared.refusal.Refusal.TheVariants.{Damaged}
+use Rattle.cat_base.specs.declared.refusal.Refusal.TheVariants.{Damaged, Device, Memory}
 use Rattle.cat_merge.specs.declared.sources.SourceRange.{SourceRange}
 use Rattle.cat_model.specs.Text.{Text}
 use Rattle.cat_merge.specs.files.Sources.{IsCutOff, TellsAll, sources_told}
 use Rattle.cat_merge.proofs.Frames.{reads_on}
-use Rattle.cat_merge.proofs.files.Ranges.{passed, read_more, lens_more, some_cut_off, no_range, at_index, fails_after, fails_on, not_answered}
+use Rattle.cat_merge.proofs.files.Ranges.{passed, read_more, lens_more, some_cut_off, no_range, at_index, fails_after, fails_on, not_answered, counts_passed}
 use Rattle.cat_merge.proofs.files.sources.read_ranges.Goals as goal
 
 pub returns-in_err-more-clause-damaged : goal.returns-in_err-more-clause-damaged
@@ -58,4 +59,21 @@ returns g c =
       damaged = tt;
       frame = c.loop-range.invariant.frame;
       fails = record { device = tt; counted = c.loop-range.invariant.count };
+    }
+
+pub returns-in_err-extend_from_slice-clause-ok : goal.returns-in_err-extend_from_slice-clause-ok
+returns-in_err-extend_from_slice-clause-ok g c = IfOk-from_err _ _ c.from_residual-in_err-extend_from_slice.ensures.0
+
+pub returns-in_err-extend_from_slice-clause-len : goal.returns-in_err-extend_from_slice-clause-len
+returns-in_err-extend_from_slice-clause-len g c = IfOk-from_err _ _ c.from_residual-in_err-extend_from_slice.ensures.0
+
+pub returns-in_err-extend_from_slice-clause-damaged : goal.returns-in_err-extend_from_slice-clause-damaged
+returns-in_err-extend_from_slice-clause-damaged g c =
+    passed (λ (e : Refusal). e ≡ Damaged → Any (IsCutOff (g.S.Holder.bytes c.args.shelf.now)) c.args.ranges.now) _ Memory c.from_residual-in_err-extend_from_slice.ensures (λ is. absurd (let no : Memory ≡ Damaged = is in cc))
+
+pub returns-in_err-extend_from_slice-clause-fails : goal.returns-in_err-extend_from_slice-clause-fails
+returns-in_err-extend_from_slice-clause-fails g c =
+    record {
+      device = passed (λ (e : Refusal). e ≡ Device → g.S.Holder.can_fail c.args.shelf.now) _ Memory c.from_residual-in_err-extend_from_slice.ensures (λ is. absurd (let no : Memory ≡ Device = is in cc));
+      counted = counts_passed (g.S.Holder.fault_count c.args.shelf.now) (g.S.Holder.fault_count c.read_range.new.shelf) _ Memory c.from_residual-in_err-extend_from_slice.ensures (c.in_ok-more.ensures.fails.counted ∙ c.loop-range.invariant.count);
     }

@@ -1,3 +1,4 @@
+use Rattle.std.proofs.lemmas.Result.{IfOk-from_err}
 use Rattle.std.proofs.Common.{◌≡◌, ℕ, List, [], length, map, true, false, sym, ap, ◌∙◌, arith}
 use Rattle.std.specs.Prelude.{◌==◌}
 use Rattle.std.proofs.lemmas.Bool.Decides.{nat_tests}
@@ -40,3 +41,6 @@ sealed-requires-clause-some c = λ none.
     let heads : c.self.inside.kept.items ≡ [] = kept ∙ ap (map head_of) (ap kept_rows (sym c.deref.ensures.value) ∙ none) in
     let never : false ≡ true = not_zero c.self.inside.kept.len (sym c.is_empty.ensures ∙ c.if-is_empty.false) (c.self.inside.kept.ok.0 ∙ ap length heads) in
     cc
+
+pub returns-in_err-sealed : goal.returns-in_err-sealed
+returns-in_err-sealed c = record { ok = IfOk-from_err _ _ c.from_residual.ensures.0 }
