@@ -1,6 +1,6 @@
 -- How calls fail that are made of one that writes.
-use Rattle.std.proofs.Common.{◌≡◌, ◌⊎◌, ℕ, ◌≤◌, Result, Ok, Err, arith, inl, inr, refl, subst}
-use Rattle.std.specs.Prelude.{◌≢◌}
+use Rattle.std.proofs.Common.{◌≡◌, ◌⊎◌, ℕ, ◌≤◌, Result, Ok, Err, arith, inl, inr, refl, subst, sym, ◌∙◌}
+use Rattle.std.specs.Prelude.{◌≢◌, IsErr, IsErrAnd}
 use Rattle.cat_base.specs.declared.refusal.Refusal.{Refusal}
 use Rattle.cat_base.specs.declared.refusal.Refusal.TheVariants.{Device, Memory, Spent}
 use Rattle.cat_directory.specs.Devices.{WritingCount}
@@ -34,4 +34,16 @@ writing_counts {S} {can_fail} {faults} {X} {old} {new} (Err e) f = record {
   memory = λ is. subst (λ x. WritingCount (faults old) (faults new) x) is f.counted;
   can = f.can;
   rises = writing_rises (faults old) (faults new) e f.counted;
+}
+
+-- a want of memory that is passed on, and counts nothing
+pub quiet_counts : {S : Type 0} {can_fail : S → Type 0} {faults : S → ℕ} {X : Type 0} {now : S} (r : Result X Refusal)
+    → IsErr r × IsErrAnd r (λ e. e ≡ Memory) → CountsFailures can_fail faults now now r
+quiet_counts (Ok x) is = absurd is.1
+quiet_counts (Err e) is = record {
+  device = λ device. let no : Memory ≡ Device = sym is.1 ∙ device in cc;
+  counted = λ device. let no : Memory ≡ Device = sym is.1 ∙ device in cc;
+  memory = λ memory. refl;
+  can = λ can. can;
+  rises = omega arith;
 }

@@ -1,4 +1,7 @@
-use Rattle.std.proofs.Common.{◌≡◌, ◌+◌, ◌≤◌, [], ◌∷◌, None, Some, inr, length, take, drop, sym, ap, subst, arith}
+use Rattle.std.proofs.Common.{◌≡◌, ◌+◌, ◌<◌, ◌≤◌, [], ◌∷◌, None, Some, inl, inr, refl, length, take, drop, sym, ap, subst, arith}
+use Rattle.std.specs.Prelude.{◌⊎◌}
+use Rattle.cat_base.specs.declared.refusal.Refusal.{Refusal}
+use Rattle.cat_base.specs.declared.refusal.Refusal.TheVariants.{Device, Memory, Spent}
 use Rattle.cat_model.specs.Files.{Name}
 use Rattle.cat_model.specs.Limits.{last_number, row_limit}
 use Rattle.cat_model.specs.Merged.{rows_of_all}
@@ -7,8 +10,10 @@ use Rattle.cat_ledger_laws.proofs.shape.Writes.{refusals_keep}
 use Rattle.cat_ledger_laws.specs.shape.Steps.{IsBegun}
 use Rattle.cat_ledger_laws.specs.shape.Ties.{TouchesOnly}
 use Rattle.cat_ledger_state.specs.Cores.{HasGivenUp, StayKnown, shape_of_core}
+use Rattle.cat_commits.proofs.reading.Reading.{passed}
+use Rattle.cat_ledger_state.proofs.Results.{either_err}
 use Rattle.cat_ledger_state.proofs.Counting.{given_again, known_still}
-use Rattle.cat_ledger_state.proofs.Failing.{writing_counts, writing_refuses, writing_spends_none}
+use Rattle.cat_ledger_state.proofs.Failing.{quiet_counts, writing_counts, writing_refuses, writing_spends_none}
 use Rattle.cat_ledger_state.proofs.Merging.{run_is, may_merge, one_fits, begun_is, begun_left}
 use Rattle.cat_ledger_state.proofs.Known.{source_past, taken_past, undone_past}
 use Rattle.cat_ledger_state.proofs.state.Core.begin_merge.Goals as goal
@@ -101,3 +106,73 @@ returns-in-Err-clause-refusal g c = writing_refuses _ _ c.in-Err.refusal c.in-Er
 
 pub returns-in-Err-clause-due : goal.returns-in-Err-clause-due
 returns-in-Err-clause-due g c = λ is. subst (λ s. s.next_segment ≤ last_number) c.self.view_is c.if-number-gt-LAST_NUMBER.false
+
+pub returns-then-number-gt-LAST_NUMBER-clause-others : goal.returns-then-number-gt-LAST_NUMBER-clause-others
+returns-then-number-gt-LAST_NUMBER-clause-others g c = λ q other. refl
+
+pub returns-then-number-gt-LAST_NUMBER-clause-err : goal.returns-then-number-gt-LAST_NUMBER-clause-err
+returns-then-number-gt-LAST_NUMBER-clause-err g c = inl (refl, λ q. refl)
+
+pub returns-then-number-gt-LAST_NUMBER-clause-known : goal.returns-then-number-gt-LAST_NUMBER-clause-known
+returns-then-number-gt-LAST_NUMBER-clause-known g c = λ q known. known
+
+pub returns-then-number-gt-LAST_NUMBER-clause-crash : goal.returns-then-number-gt-LAST_NUMBER-clause-crash
+returns-then-number-gt-LAST_NUMBER-clause-crash g c = λ q other e might. might
+
+pub returns-then-number-gt-LAST_NUMBER-clause-spent : goal.returns-then-number-gt-LAST_NUMBER-clause-spent
+returns-then-number-gt-LAST_NUMBER-clause-spent g c = λ is. subst (λ s. last_number < s.next_segment) c.self.view_is c.if-number-gt-LAST_NUMBER.true
+
+pub returns-then-number-gt-LAST_NUMBER-clause-due : goal.returns-then-number-gt-LAST_NUMBER-clause-due
+returns-then-number-gt-LAST_NUMBER-clause-due g c = λ is. elim is [ inl memory ↦ cc | inr device ↦ cc ]
+
+pub returns-then-number-gt-LAST_NUMBER-clause-fails : goal.returns-then-number-gt-LAST_NUMBER-clause-fails
+returns-then-number-gt-LAST_NUMBER-clause-fails g c = record { device = λ is. cc is; counted = λ is. cc is; memory = λ is. cc is; can = λ can. can; rises = omega arith }
+
+pub returns-then-number-gt-LAST_NUMBER-clause-refusal : goal.returns-then-number-gt-LAST_NUMBER-clause-refusal
+returns-then-number-gt-LAST_NUMBER-clause-refusal g c = inr (inr refl)
+
+pub returns-in_err-merge-clause-others : goal.returns-in_err-merge-clause-others
+returns-in_err-merge-clause-others g c = λ q other. refl
+
+pub returns-in_err-merge-clause-crash : goal.returns-in_err-merge-clause-crash
+returns-in_err-merge-clause-crash g c = λ q other e might. might
+
+pub returns-in_err-merge-clause-err : goal.returns-in_err-merge-clause-err
+returns-in_err-merge-clause-err g c = either_err c.from_residual.result (inl (refl, λ q. refl))
+
+pub returns-in_err-merge-clause-known : goal.returns-in_err-merge-clause-known
+returns-in_err-merge-clause-known g c = either_err c.from_residual.result (λ q known. known)
+
+pub returns-in_err-merge-clause-spent : goal.returns-in_err-merge-clause-spent
+returns-in_err-merge-clause-spent g c = passed (λ (e : Refusal). e ≡ Spent → last_number < c.args.self.now.next_segment) _ _ c.from_residual.ensures (λ is. cc is)
+
+pub returns-in_err-merge-clause-due : goal.returns-in_err-merge-clause-due
+returns-in_err-merge-clause-due g c =
+    passed (λ (e : Refusal). (e ≡ Memory) ⊎ (e ≡ Device) → c.args.self.now.next_segment ≤ last_number) _ _ c.from_residual.ensures
+    (λ is. subst (λ s. s.next_segment ≤ last_number) c.self.view_is c.if-number-gt-LAST_NUMBER.false)
+
+pub returns-in_err-merge-clause-fails : goal.returns-in_err-merge-clause-fails
+returns-in_err-merge-clause-fails g c = quiet_counts _ c.from_residual.ensures
+
+pub returns-in_err-merge-clause-refusal : goal.returns-in_err-merge-clause-refusal
+returns-in_err-merge-clause-refusal g c = passed (λ (e : Refusal). (e ≡ Memory) ⊎ (e ≡ Device) ⊎ (e ≡ Spent)) _ _ c.from_residual.ensures (inl refl)
+
+pub returns-in_err-take_source-clause-others : goal.returns-in_err-take_source-clause-others
+returns-in_err-take_source-clause-others g c = λ q other. refl
+
+pub returns-in_err-take_source-clause-crash : goal.returns-in_err-take_source-clause-crash
+returns-in_err-take_source-clause-crash g c = λ q other e might. might
+
+pub returns-in_err-take_source-clause-spent : goal.returns-in_err-take_source-clause-spent
+returns-in_err-take_source-clause-spent g c = passed (λ (e : Refusal). e ≡ Spent → last_number < c.args.self.now.next_segment) _ _ c.from_residual-in_err-take_source.ensures (λ is. cc is)
+
+pub returns-in_err-take_source-clause-due : goal.returns-in_err-take_source-clause-due
+returns-in_err-take_source-clause-due g c =
+    passed (λ (e : Refusal). (e ≡ Memory) ⊎ (e ≡ Device) → c.args.self.now.next_segment ≤ last_number) _ _ c.from_residual-in_err-take_source.ensures
+    (λ is. subst (λ s. s.next_segment ≤ last_number) c.self.view_is c.if-number-gt-LAST_NUMBER.false)
+
+pub returns-in_err-take_source-clause-fails : goal.returns-in_err-take_source-clause-fails
+returns-in_err-take_source-clause-fails g c = quiet_counts _ c.from_residual-in_err-take_source.ensures
+
+pub returns-in_err-take_source-clause-refusal : goal.returns-in_err-take_source-clause-refusal
+returns-in_err-take_source-clause-refusal g c = passed (λ (e : Refusal). (e ≡ Memory) ⊎ (e ≡ Device) ⊎ (e ≡ Spent)) _ _ c.from_residual-in_err-take_source.ensures (inl refl)

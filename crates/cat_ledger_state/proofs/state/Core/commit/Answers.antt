@@ -1,7 +1,10 @@
-use Rattle.std.proofs.Common.{◌≡◌, ◌+◌, ◌≤◌, [], ◌∷◌, map, sym, ◌∙◌, ap, subst, inl, inr, Some, None, true, false, arith}
+use Rattle.std.proofs.Common.{◌≡◌, ℕ, ◌+◌, ◌<◌, ◌≤◌, [], ◌∷◌, map, refl, sym, ◌∙◌, ap, subst, inl, inr, Some, None, true, false, arith}
 use Rattle.std.specs.Prelude.{◌⊎◌}
 use Rattle.std.proofs.lemmas.Result.{IfOk-at_ok, IfErr-at_err}
-use Rattle.cat_base.specs.declared.refusal.Refusal.TheVariants.{Device}
+use Rattle.cat_base.specs.declared.refusal.Refusal.{Refusal}
+use Rattle.cat_base.specs.declared.refusal.Refusal.TheVariants.{Device, Memory, Spent}
+use Rattle.cat_model.specs.Limits.{last_number}
+use Rattle.cat_directory.specs.Devices.{CountsOne}
 use Rattle.cat_model.specs.Files.{Name}
 use Rattle.cat_model.specs.CommitFile.{IsCommitFile, commit_needs, spelled_commit}
 use Rattle.cat_directory.specs.Names.{name_of}
@@ -18,10 +21,15 @@ use Rattle.cat_commits.specs.writing.NewFiles.{AreSettled, ComesLast, NoMoreBut,
 use Rattle.cat_commits.specs.writing.Unsynced.{begun}
 use Rattle.cat_ledger_state.specs.Commits.{HasCommitted, draft_now, names_given}
 use Rattle.cat_ledger_state.specs.Cores.{HasGivenUp, StayKnown, shape_of_core}
+use Rattle.cat_commits.proofs.reading.Reading.{passed}
+use Rattle.cat_ledger_state.proofs.Results.{either_err}
 use Rattle.cat_ledger_state.proofs.Counting.{given_again, known_still}
 use Rattle.cat_ledger_state.proofs.Committing.{needs_fit, leaving_fit_after, committed_is, commit_writes, commit_left}
 use Rattle.cat_ledger_state.proofs.Known.{commit_past, undone_past}
 use Rattle.cat_ledger_state.proofs.state.Core.commit.Goals as goal
+
+none_left : (n : ℕ) → n ≤ last_number → last_number < n → ⊥
+none_left n some gone = omega (arith, some, gone)
 
 pub make_room-requires : goal.make_room-requires
 make_room-requires g c =
@@ -181,3 +189,132 @@ returns-in-Err-clause-behind g c =
 pub returns-in-Err-clause-torn : goal.returns-in-Err-clause-torn
 returns-in-Err-clause-torn g c =
     subst (λ d. OnlyTorn (file.Commit d.commit.generation) (spelled_commit d.commit) (g.D.Holder.bytes c.args.device.now) (g.D.Holder.may_leave c.args.device.now) (g.D.Holder.may_leave c.write-written.new.device)) c.in_ok-ready.ensures.draft c.write-written.ensures.torn
+
+pub returns-then-generation-gt-LAST_NUMBER-clause-form : goal.returns-then-generation-gt-LAST_NUMBER-clause-form
+returns-then-generation-gt-LAST_NUMBER-clause-form g c = λ left.
+    absurd (none_left c.self.inside.next_generation (subst (λ s. s.next_generation ≤ last_number) (sym c.self.view_is) left) c.if-generation-gt-LAST_NUMBER.true)
+
+pub returns-then-generation-gt-LAST_NUMBER-clause-err : goal.returns-then-generation-gt-LAST_NUMBER-clause-err
+returns-then-generation-gt-LAST_NUMBER-clause-err g c = inl (refl, λ q. refl)
+
+pub returns-then-generation-gt-LAST_NUMBER-clause-known : goal.returns-then-generation-gt-LAST_NUMBER-clause-known
+returns-then-generation-gt-LAST_NUMBER-clause-known g c = λ q known. known
+
+pub returns-then-generation-gt-LAST_NUMBER-clause-taken : goal.returns-then-generation-gt-LAST_NUMBER-clause-taken
+returns-then-generation-gt-LAST_NUMBER-clause-taken g c = inr refl
+
+pub returns-then-generation-gt-LAST_NUMBER-clause-crash : goal.returns-then-generation-gt-LAST_NUMBER-clause-crash
+returns-then-generation-gt-LAST_NUMBER-clause-crash g c = λ q other e might. might
+
+pub returns-then-generation-gt-LAST_NUMBER-clause-order : goal.returns-then-generation-gt-LAST_NUMBER-clause-order
+returns-then-generation-gt-LAST_NUMBER-clause-order g c = inl (record { told_same = refl; left_same = λ e might. might })
+
+pub returns-then-generation-gt-LAST_NUMBER-clause-behind : goal.returns-then-generation-gt-LAST_NUMBER-clause-behind
+returns-then-generation-gt-LAST_NUMBER-clause-behind g c = inl (record { told_same = refl; left_same = λ e might. might })
+
+pub returns-then-generation-gt-LAST_NUMBER-clause-spent : goal.returns-then-generation-gt-LAST_NUMBER-clause-spent
+returns-then-generation-gt-LAST_NUMBER-clause-spent g c = λ is. subst (λ s. last_number < s.next_generation) c.self.view_is c.if-generation-gt-LAST_NUMBER.true
+
+pub returns-then-generation-gt-LAST_NUMBER-clause-due : goal.returns-then-generation-gt-LAST_NUMBER-clause-due
+returns-then-generation-gt-LAST_NUMBER-clause-due g c = λ is. elim is [ inl memory ↦ cc | inr device ↦ cc ]
+
+pub returns-then-generation-gt-LAST_NUMBER-clause-device : goal.returns-then-generation-gt-LAST_NUMBER-clause-device
+returns-then-generation-gt-LAST_NUMBER-clause-device g c = λ is. cc is
+
+pub returns-then-generation-gt-LAST_NUMBER-clause-counted : goal.returns-then-generation-gt-LAST_NUMBER-clause-counted
+returns-then-generation-gt-LAST_NUMBER-clause-counted g c = λ is. cc is
+
+pub returns-then-generation-gt-LAST_NUMBER-clause-memory : goal.returns-then-generation-gt-LAST_NUMBER-clause-memory
+returns-then-generation-gt-LAST_NUMBER-clause-memory g c = λ is. cc is
+
+pub returns-then-generation-gt-LAST_NUMBER-clause-refusal : goal.returns-then-generation-gt-LAST_NUMBER-clause-refusal
+returns-then-generation-gt-LAST_NUMBER-clause-refusal g c = inr (inr refl)
+
+pub returns-in_err-ready-clause-form : goal.returns-in_err-ready-clause-form
+returns-in_err-ready-clause-form g c = λ left. c.ready.ensures.form
+
+pub returns-in_err-ready-clause-crash : goal.returns-in_err-ready-clause-crash
+returns-in_err-ready-clause-crash g c = λ q other e might. might
+
+pub returns-in_err-ready-clause-order : goal.returns-in_err-ready-clause-order
+returns-in_err-ready-clause-order g c = inl (record { told_same = refl; left_same = λ e might. might })
+
+pub returns-in_err-ready-clause-behind : goal.returns-in_err-ready-clause-behind
+returns-in_err-ready-clause-behind g c = inl (record { told_same = refl; left_same = λ e might. might })
+
+pub returns-in_err-ready-clause-err : goal.returns-in_err-ready-clause-err
+returns-in_err-ready-clause-err g c = either_err c.from_residual.result (inl (refl, λ q. refl))
+
+pub returns-in_err-ready-clause-known : goal.returns-in_err-ready-clause-known
+returns-in_err-ready-clause-known g c = either_err c.from_residual.result (λ q known. known)
+
+pub returns-in_err-ready-clause-taken : goal.returns-in_err-ready-clause-taken
+returns-in_err-ready-clause-taken g c = either_err c.from_residual.result (inr refl)
+
+pub returns-in_err-ready-clause-spent : goal.returns-in_err-ready-clause-spent
+returns-in_err-ready-clause-spent g c = passed (λ (e : Refusal). e ≡ Spent → last_number < c.args.self.now.next_generation) _ _ c.from_residual.ensures (λ is. cc is)
+
+pub returns-in_err-ready-clause-due : goal.returns-in_err-ready-clause-due
+returns-in_err-ready-clause-due g c =
+    passed (λ (e : Refusal). (e ≡ Memory) ⊎ (e ≡ Device) → c.args.self.now.next_generation ≤ last_number) _ _ c.from_residual.ensures
+    (λ is. subst (λ s. s.next_generation ≤ last_number) c.self.view_is c.if-generation-gt-LAST_NUMBER.false)
+
+pub returns-in_err-ready-clause-counted : goal.returns-in_err-ready-clause-counted
+returns-in_err-ready-clause-counted g c =
+    passed (λ (e : Refusal). e ≡ Device → CountsOne (g.D.Holder.fault_count c.args.device.now) (g.D.Holder.fault_count c.args.device.now)) _ _ c.from_residual.ensures (λ is. cc is)
+
+pub returns-in_err-ready-clause-memory : goal.returns-in_err-ready-clause-memory
+returns-in_err-ready-clause-memory g c =
+    passed (λ (e : Refusal). e ≡ Memory → g.D.Holder.fault_count c.args.device.now ≡ g.D.Holder.fault_count c.args.device.now) _ _ c.from_residual.ensures (λ is. refl)
+
+pub returns-in_err-ready-clause-refusal : goal.returns-in_err-ready-clause-refusal
+returns-in_err-ready-clause-refusal g c = passed (λ (e : Refusal). (e ≡ Memory) ⊎ (e ≡ Device) ⊎ (e ≡ Spent)) _ _ c.from_residual.ensures (inl refl)
+
+pub returns-in_err-make_room-clause-form : goal.returns-in_err-make_room-clause-form
+returns-in_err-make_room-clause-form g c = λ left. c.ready.ensures.form
+
+pub returns-in_err-make_room-clause-crash : goal.returns-in_err-make_room-clause-crash
+returns-in_err-make_room-clause-crash g c = λ q other e might. might
+
+pub returns-in_err-make_room-clause-order : goal.returns-in_err-make_room-clause-order
+returns-in_err-make_room-clause-order g c = inl (record { told_same = refl; left_same = λ e might. might })
+
+pub returns-in_err-make_room-clause-behind : goal.returns-in_err-make_room-clause-behind
+returns-in_err-make_room-clause-behind g c = inl (record { told_same = refl; left_same = λ e might. might })
+
+pub returns-in_err-make_room-clause-taken : goal.returns-in_err-make_room-clause-taken
+returns-in_err-make_room-clause-taken g c = either_err c.from_residual-in_err-make_room.result (inr refl)
+
+pub returns-in_err-make_room-clause-spent : goal.returns-in_err-make_room-clause-spent
+returns-in_err-make_room-clause-spent g c = passed (λ (e : Refusal). e ≡ Spent → last_number < c.args.self.now.next_generation) _ _ c.from_residual-in_err-make_room.ensures (λ is. cc is)
+
+pub returns-in_err-make_room-clause-due : goal.returns-in_err-make_room-clause-due
+returns-in_err-make_room-clause-due g c =
+    passed (λ (e : Refusal). (e ≡ Memory) ⊎ (e ≡ Device) → c.args.self.now.next_generation ≤ last_number) _ _ c.from_residual-in_err-make_room.ensures
+    (λ is. subst (λ s. s.next_generation ≤ last_number) c.self.view_is c.if-generation-gt-LAST_NUMBER.false)
+
+pub returns-in_err-make_room-clause-counted : goal.returns-in_err-make_room-clause-counted
+returns-in_err-make_room-clause-counted g c =
+    passed (λ (e : Refusal). e ≡ Device → CountsOne (g.D.Holder.fault_count c.args.device.now) (g.D.Holder.fault_count c.args.device.now)) _ _ c.from_residual-in_err-make_room.ensures (λ is. cc is)
+
+pub returns-in_err-make_room-clause-memory : goal.returns-in_err-make_room-clause-memory
+returns-in_err-make_room-clause-memory g c =
+    passed (λ (e : Refusal). e ≡ Memory → g.D.Holder.fault_count c.args.device.now ≡ g.D.Holder.fault_count c.args.device.now) _ _ c.from_residual-in_err-make_room.ensures (λ is. refl)
+
+pub returns-in_err-make_room-clause-refusal : goal.returns-in_err-make_room-clause-refusal
+returns-in_err-make_room-clause-refusal g c = passed (λ (e : Refusal). (e ≡ Memory) ⊎ (e ≡ Device) ⊎ (e ≡ Spent)) _ _ c.from_residual-in_err-make_room.ensures (inl refl)
+
+pub returns-in-Err-clause-form : goal.returns-in-Err-clause-form
+returns-in-Err-clause-form g c = λ left. c.ready.ensures.form
+
+pub returns-clause-form : goal.returns-clause-form
+returns-clause-form g c = λ left. c.ready.ensures.form
+
+pub returns-in-Err-clause-due : goal.returns-in-Err-clause-due
+returns-in-Err-clause-due g c = λ is. subst (λ s. s.next_generation ≤ last_number) c.self.view_is c.if-generation-gt-LAST_NUMBER.false
+
+pub returns-in-Err-clause-can : goal.returns-in-Err-clause-can
+returns-in-Err-clause-can g c = c.write-written.ensures.can
+
+pub returns-clause-can : goal.returns-clause-can
+returns-clause-can g c = c.write-written.ensures.can

@@ -115,3 +115,12 @@ returns-in-Err-clause-device g c = λ device.
 
 pub returns-in-Err-clause-counted : goal.returns-in-Err-clause-counted
 returns-in-Err-clause-counted g c = c.in-Err.ensures.counted
+
+pub returns-in-Ok-clause-can : goal.returns-in-Ok-clause-can
+returns-in-Ok-clause-can g c = c.copy_step.ensures.can
+
+pub returns-in-Err-clause-can : goal.returns-in-Err-clause-can
+returns-in-Err-clause-can g c = c.copy_step.ensures.can
+
+pub returns-in-Ok-clause-counted : goal.returns-in-Ok-clause-counted
+returns-in-Ok-clause-counted g c = c.in-Ok.ensures.counted

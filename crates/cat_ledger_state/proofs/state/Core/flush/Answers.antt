@@ -1,6 +1,7 @@
 use Rattle.std.proofs.Common.{◌≡◌, ℕ, ◌+◌, ◌-◌, ◌<◌, ◌≤◌, Err, List, Ok, Result, [], ◌∷◌, ◌++◌, length, length-append, take, sym, ◌∙◌, ap, subst, inl, inr, arith, refl}
 use Rattle.std.specs.Prelude.{IfErr, ◌⊎◌}
-use Rattle.cat_base.specs.declared.refusal.Refusal.TheVariants.{Device, Memory}
+use Rattle.cat_base.specs.declared.refusal.Refusal.{Refusal}
+use Rattle.cat_base.specs.declared.refusal.Refusal.TheVariants.{Device, Memory, Spent}
 use Rattle.cat_model.specs.Files.{Name}
 use Rattle.cat_model.specs.Limits.{last_number, segment_limit}
 use Rattle.cat_model.specs.View.{Leaf}
@@ -10,8 +11,10 @@ use Rattle.cat_ledger_laws.specs.model.Leaves.{AreLeaves}
 use Rattle.cat_ledger_laws.specs.model.Portions.{all_live, leaf_of}
 use Rattle.cat_ledger_laws.proofs.shape.Writes.{flushed_may_stand, flushes_keep, refusals_keep}
 use Rattle.cat_ledger_state.specs.Cores.{shape_of_core, flush_begins, HasFlushed, HasGivenUp, MayNotFlush, StayKnown}
+use Rattle.cat_commits.proofs.reading.Reading.{passed}
+use Rattle.cat_ledger_state.proofs.Results.{either_err}
 use Rattle.cat_ledger_state.proofs.Counting.{given_again, known_still}
-use Rattle.cat_ledger_state.proofs.Failing.{writing_counts, writing_refuses, writing_spends_none}
+use Rattle.cat_ledger_state.proofs.Failing.{quiet_counts, writing_counts, writing_refuses, writing_spends_none}
 use Rattle.cat_ledger_state.proofs.Flushing.{pair_fits, some_waits, flush_is, flush_writes, one_more, without_last, flush_left, other_files}
 use Rattle.cat_ledger_state.proofs.Known.{segment_past, taken_past, undone_past}
 use Rattle.cat_ledger_state.proofs.state.Core.flush.Goals as goal
@@ -172,3 +175,42 @@ returns-then-is_empty-clause-ok g c =
 
 pub returns-then-is_empty-clause-may : goal.returns-then-is_empty-clause-may
 returns-then-is_empty-clause-may g c = λ may. may.0 (subst (λ s. s.buffered ≡ []) c.self.view_is (c.is_empty.ensures.0 c.if-is_empty.true))
+
+pub returns-then-is_empty-clause-crash : goal.returns-then-is_empty-clause-crash
+returns-then-is_empty-clause-crash g c = λ q other e might. might
+
+pub returns-then-is_empty-clause-fails : goal.returns-then-is_empty-clause-fails
+returns-then-is_empty-clause-fails g c = record { device = tt; counted = tt; memory = tt; can = λ can. can; rises = omega arith }
+
+pub returns-then-is_empty-clause-quiet : goal.returns-then-is_empty-clause-quiet
+returns-then-is_empty-clause-quiet g c = refl
+
+pub returns-in_err-leaf-clause-crash : goal.returns-in_err-leaf-clause-crash
+returns-in_err-leaf-clause-crash g c = λ q other e might. might
+
+pub returns-in_err-leaf-clause-err : goal.returns-in_err-leaf-clause-err
+returns-in_err-leaf-clause-err g c = either_err c.from_residual.result (inl (refl, λ q. refl))
+
+pub returns-in_err-leaf-clause-known : goal.returns-in_err-leaf-clause-known
+returns-in_err-leaf-clause-known g c = either_err c.from_residual.result (λ q known. known)
+
+pub returns-in_err-leaf-clause-spent : goal.returns-in_err-leaf-clause-spent
+returns-in_err-leaf-clause-spent g c = passed (λ (e : Refusal). e ≡ Spent → MayNotFlush c.args.self.now) _ _ c.from_residual.ensures (λ is. cc is)
+
+pub returns-in_err-leaf-clause-fails : goal.returns-in_err-leaf-clause-fails
+returns-in_err-leaf-clause-fails g c = quiet_counts _ c.from_residual.ensures
+
+pub returns-in_err-leaf-clause-refusal : goal.returns-in_err-leaf-clause-refusal
+returns-in_err-leaf-clause-refusal g c = passed (λ (e : Refusal). (e ≡ Memory) ⊎ (e ≡ Device) ⊎ (e ≡ Spent)) _ _ c.from_residual.ensures (inl refl)
+
+pub returns-in_err-add_segment-clause-crash : goal.returns-in_err-add_segment-clause-crash
+returns-in_err-add_segment-clause-crash g c = λ q other e might. might
+
+pub returns-in_err-add_segment-clause-spent : goal.returns-in_err-add_segment-clause-spent
+returns-in_err-add_segment-clause-spent g c = passed (λ (e : Refusal). e ≡ Spent → MayNotFlush c.args.self.now) _ _ c.from_residual-in_err-add_segment.ensures (λ is. cc is)
+
+pub returns-in_err-add_segment-clause-fails : goal.returns-in_err-add_segment-clause-fails
+returns-in_err-add_segment-clause-fails g c = quiet_counts _ c.from_residual-in_err-add_segment.ensures
+
+pub returns-in_err-add_segment-clause-refusal : goal.returns-in_err-add_segment-clause-refusal
+returns-in_err-add_segment-clause-refusal g c = passed (λ (e : Refusal). (e ≡ Memory) ⊎ (e ≡ Device) ⊎ (e ≡ Spent)) _ _ c.from_residual-in_err-add_segment.ensures (inl refl)

@@ -1,4 +1,4 @@
-use Rattle.std.proofs.Common.{◌≤◌, ◌∙◌, [], ◌∷◌, length, sym, ap, subst, arith}
+use Rattle.std.proofs.Common.{◌≤◌, ◌∙◌, [], ◌∷◌, inl, length, sym, ap, subst, arith}
 use Rattle.std.specs.Prelude.{option_map}
 use Rattle.cat_model.specs.Files.{Name}
 use Rattle.cat_model.specs.Limits.{segment_limit}
@@ -6,8 +6,9 @@ use Rattle.cat_ledger_laws.specs.model.Users.{Changes}
 use Rattle.cat_ledger_laws.proofs.shape.MergeInstalls.{installs_keep}
 use Rattle.cat_ledger_state.specs.Cores.{StayKnown, shape_of_core}
 use Rattle.cat_ledger_state.proofs.Counting.{known_after}
-use Rattle.cat_ledger_state.specs.Installs.{HasAllPassed, HasFailed, HasInstalled}
-use Rattle.cat_ledger_state.proofs.Merging.{still_under, none_under}
+use Rattle.cat_ledger_state.specs.Installs.{HasAllPassed, HasFailed, HasInstalled, IsOfMerge}
+use Rattle.cat_ledger_state.proofs.Merging.{of_merge, still_under, none_under}
+use Rattle.cat_ledger_state.proofs.Failing.{writing_counts}
 use Rattle.cat_ledger_state.proofs.Installing.{may_install, fails, fails_keep, installs, no_longer, installed_has, failed_has}
 use Rattle.cat_ledger_state.proofs.Known.{given_past, merged_past, merging_taken, taken_past}
 use Rattle.cat_ledger_state.proofs.state.Core.install.Goals as goal
@@ -94,3 +95,28 @@ pub returns-in-Err-clause-known : goal.returns-in-Err-clause-known
 returns-in-Err-clause-known g c =
     subst (λ s. StayKnown s.users c.install_merged-done.new.refs) c.self.view_is
     (λ q there. c.in-Err.ensures.known q (known_after _ _ c.self.inside.refs c.give_source.new.refs c.give_source.ensures q there))
+
+pub returns-in-Err-clause-crash : goal.returns-in-Err-clause-crash
+returns-in-Err-clause-crash g c = λ q apart. c.in-Err.ensures.crash q (λ is. apart (
+    subst (λ s. IsOfMerge s.merging q) c.self.view_is
+    (of_merge (λ o. IsOfMerge o q) c.self.inside.merging c.in-Some.merge (sym c.take.ensures.value ∙ c.in-Some.is) (inl is))))
+
+pub returns-in-Err-clause-fails : goal.returns-in-Err-clause-fails
+returns-in-Err-clause-fails g c = c.in-Err.ensures.fails
+
+pub returns-in-Err-clause-rises : goal.returns-in-Err-clause-rises
+returns-in-Err-clause-rises g c = (writing_counts _ c.in-Err.ensures.fails).rises
+
+pub returns-in-Err-clause-refusal : goal.returns-in-Err-clause-refusal
+returns-in-Err-clause-refusal g c = c.in-Err.ensures.refusal
+
+pub returns-clause-crash : goal.returns-clause-crash
+returns-clause-crash g c = λ q apart. c.in_default-done.ensures.crash q (λ is. apart (
+    subst (λ s. IsOfMerge s.merging q) c.self.view_is
+    (of_merge (λ o. IsOfMerge o q) c.self.inside.merging c.in-Some.merge (sym c.take.ensures.value ∙ c.in-Some.is) (inl is))))
+
+pub returns-clause-fails : goal.returns-clause-fails
+returns-clause-fails g c = c.in_default-done.ensures.fails
+
+pub returns-clause-rises : goal.returns-clause-rises
+returns-clause-rises g c = (writing_counts _ c.in_default-done.ensures.fails).rises
