@@ -1,5 +1,5 @@
-use Rattle.std.proofs.Common.{◌≡◌, ◌+◌, ◌<◌, ◌≤◌, [], ◌∷◌, None, Some, inl, inr, refl, length, take, drop, sym, ap, subst, arith}
-use Rattle.std.specs.Prelude.{◌⊎◌}
+use Rattle.std.proofs.Common.{◌≡◌, ◌+◌, ◌<◌, ◌≤◌, ◌∙◌, [], ◌∷◌, None, Some, inl, inr, true, refl, length, take, drop, sym, ap, subst, arith}
+use Rattle.std.specs.Prelude.{◌≢◌, ◌⊎◌}
 use Rattle.cat_base.specs.declared.refusal.Refusal.{Refusal}
 use Rattle.cat_base.specs.declared.refusal.Refusal.TheVariants.{Device, Memory, Spent}
 use Rattle.cat_model.specs.Files.{Name}
@@ -7,8 +7,10 @@ use Rattle.cat_model.specs.Limits.{last_number, row_limit}
 use Rattle.cat_model.specs.Merged.{rows_of_all}
 use Rattle.cat_ledger_laws.proofs.shape.MergeSteps.{begun_keep}
 use Rattle.cat_ledger_laws.proofs.shape.Writes.{refusals_keep}
+use Rattle.cat_directory.specs.declared.name.FileName.TheVariants as file
+use Rattle.cat_ledger_laws.specs.model.Users.{is_known}
 use Rattle.cat_ledger_laws.specs.shape.Steps.{IsBegun}
-use Rattle.cat_ledger_laws.specs.shape.Ties.{TouchesOnly}
+use Rattle.cat_ledger_laws.specs.shape.Ties.{IsTold, TouchesOnly}
 use Rattle.cat_ledger_state.specs.Cores.{HasGivenUp, StayKnown, shape_of_core}
 use Rattle.cat_commits.proofs.reading.Reading.{passed}
 use Rattle.cat_ledger_state.proofs.Results.{either_err}
@@ -176,3 +178,50 @@ returns-in_err-take_source-clause-fails g c = quiet_counts _ c.from_residual-in_
 
 pub returns-in_err-take_source-clause-refusal : goal.returns-in_err-take_source-clause-refusal
 returns-in_err-take_source-clause-refusal g c = passed (λ (e : Refusal). (e ≡ Memory) ⊎ (e ≡ Device) ⊎ (e ≡ Spent)) _ _ c.from_residual-in_err-take_source.ensures (inl refl)
+
+-- ---- the files that it leaves alone
+
+pub returns-in-Ok-clause-others : goal.returns-in-Ok-clause-others
+returns-in-Ok-clause-others g c =
+    let told = g.D.Holder.bytes c.args.device.now in
+    let told' = g.D.Holder.bytes c.begin_file.new.device in
+    subst (λ n. TouchesOnly (Name.source n ∷ []) told told') (ap (λ m. m.shape.number) c.in_ok-merge.ensures.ok ∙ ap (λ s. s.next_segment) c.self.view_is)
+    c.in-Ok.ensures.others
+
+pub returns-in-Ok-clause-crash : goal.returns-in-Ok-clause-crash
+returns-in-Ok-clause-crash g c =
+    λ q apart.
+    c.in-Ok.ensures.crash q
+    (subst (λ n. q ≢ file.Source n) (sym (ap (λ m. m.shape.number) c.in_ok-merge.ensures.ok ∙ ap (λ s. s.next_segment) c.self.view_is)) apart)
+
+pub returns-in-Err-clause-others : goal.returns-in-Err-clause-others
+returns-in-Err-clause-others g c =
+    let told = g.D.Holder.bytes c.args.device.now in
+    let told' = g.D.Holder.bytes c.begin_file.new.device in
+    subst (λ n. TouchesOnly (Name.source n ∷ []) told told') (ap (λ m. m.shape.number) c.in_ok-merge.ensures.ok ∙ ap (λ s. s.next_segment) c.self.view_is)
+    c.in-Err.ensures.others
+
+pub returns-in-Err-clause-crash : goal.returns-in-Err-clause-crash
+returns-in-Err-clause-crash g c =
+    λ q apart.
+    c.in-Err.ensures.crash q
+    (subst (λ n. q ≢ file.Source n) (sym (ap (λ m. m.shape.number) c.in_ok-merge.ensures.ok ∙ ap (λ s. s.next_segment) c.self.view_is)) apart)
+
+pub returns-in-Ok-clause-told : goal.returns-in-Ok-clause-told
+returns-in-Ok-clause-told g c =
+    let told' = g.D.Holder.bytes c.begin_file.new.device in
+    subst (λ n. IsTold (told' (file.Source n)) (Some [])) (ap (λ m. m.shape.number) c.in_ok-merge.ensures.ok ∙ ap (λ s. s.next_segment) c.self.view_is)
+    c.in-Ok.ensures.told
+
+-- ---- its file has no user
+
+pub returns-in_err-take_source-clause-err : goal.returns-in_err-take_source-clause-err
+returns-in_err-take_source-clause-err g c =
+    let same = c.in_err-take_source.ensures.err in
+    either_err c.from_residual-in_err-take_source.result (inl (ap (λ us. record (shape_of_core c.self.inside) { users = us }) same ∙ c.self.view_is, λ q. refl))
+
+pub returns-in_err-take_source-clause-known : goal.returns-in_err-take_source-clause-known
+returns-in_err-take_source-clause-known g c =
+    either_err c.from_residual-in_err-take_source.result
+    (subst (λ s. StayKnown s.users c.take_source.new.refs) c.self.view_is
+    (λ q known. subst (λ us. is_known us q ≡ true) (sym c.in_err-take_source.ensures.err) known))

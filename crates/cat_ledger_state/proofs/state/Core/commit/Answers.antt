@@ -10,7 +10,7 @@ use Rattle.cat_model.specs.CommitFile.{IsCommitFile, commit_needs, spelled_commi
 use Rattle.cat_directory.specs.Names.{name_of}
 use Rattle.cat_directory.specs.declared.name.FileName.{FileName}
 use Rattle.cat_directory.specs.declared.name.FileName.TheVariants as file
-use Rattle.cat_ledger_laws.specs.model.Users.{has_name, times, users_of}
+use Rattle.cat_ledger_laws.specs.model.Users.{has_name, is_known, times, users_of}
 use Rattle.cat_ledger_laws.specs.shape.CommitLaws.{names_begun}
 use Rattle.cat_ledger_laws.specs.shape.Steps.{commit_file_now}
 use Rattle.cat_ledger_laws.specs.shape.Ties.{TouchesOnly}
@@ -318,3 +318,15 @@ returns-in-Err-clause-can g c = c.write-written.ensures.can
 
 pub returns-clause-can : goal.returns-clause-can
 returns-clause-can g c = c.write-written.ensures.can
+
+pub returns-in_err-make_room-clause-err : goal.returns-in_err-make_room-clause-err
+returns-in_err-make_room-clause-err g c =
+    let left = record (shape_of_core c.self.inside) { commits = c.make_room.new.commits.items; users = c.make_room.new.refs } in
+    let same : left ≡ shape_of_core c.self.inside = λ i. record (shape_of_core c.self.inside) { commits = c.in_err-make_room.ensures.same i; users = c.in_err-make_room.ensures.err i } in
+    either_err c.from_residual-in_err-make_room.result (inl (same ∙ c.self.view_is, λ q. refl))
+
+pub returns-in_err-make_room-clause-known : goal.returns-in_err-make_room-clause-known
+returns-in_err-make_room-clause-known g c =
+    either_err c.from_residual-in_err-make_room.result
+    (subst (λ s. StayKnown s.users c.make_room.new.refs) c.self.view_is
+    (λ q known. subst (λ us. is_known us q ≡ true) (sym c.in_err-make_room.ensures.err) known))

@@ -1,16 +1,18 @@
-use Rattle.std.proofs.Common.{◌≡◌, ℕ, ◌+◌, ◌-◌, ◌<◌, ◌≤◌, Err, List, Ok, Result, [], ◌∷◌, ◌++◌, length, length-append, take, sym, ◌∙◌, ap, subst, inl, inr, arith, refl}
+use Rattle.std.proofs.Common.{◌≡◌, ℕ, ◌+◌, ◌-◌, ◌<◌, ◌≤◌, Err, List, Ok, Result, [], ◌∷◌, ◌++◌, length, length-append, take, sym, ◌∙◌, ap, subst, inl, inr, true, false, arith, refl}
 use Rattle.std.specs.Prelude.{IfErr, ◌⊎◌}
 use Rattle.cat_base.specs.declared.refusal.Refusal.{Refusal}
 use Rattle.cat_base.specs.declared.refusal.Refusal.TheVariants.{Device, Memory, Spent}
+use Rattle.cat_directory.specs.Devices.{NoMore}
+use Rattle.cat_directory.specs.declared.name.FileName.{FileName}
 use Rattle.cat_model.specs.Files.{Name}
 use Rattle.cat_model.specs.Limits.{last_number, segment_limit}
 use Rattle.cat_model.specs.View.{Leaf}
-use Rattle.cat_ledger_laws.specs.model.Users.{Changes, times, users_of}
+use Rattle.cat_ledger_laws.specs.model.Users.{Changes, is_known, times, users_of}
 use Rattle.cat_ledger_laws.specs.shape.Shapes.{Shape, names_of_leaves}
 use Rattle.cat_ledger_laws.specs.model.Leaves.{AreLeaves}
 use Rattle.cat_ledger_laws.specs.model.Portions.{all_live, leaf_of}
 use Rattle.cat_ledger_laws.proofs.shape.Writes.{flushed_may_stand, flushes_keep, refusals_keep}
-use Rattle.cat_ledger_state.specs.Cores.{shape_of_core, flush_begins, HasFlushed, HasGivenUp, MayNotFlush, StayKnown}
+use Rattle.cat_ledger_state.specs.Cores.{shape_of_core, flush_begins, is_begun, HasFlushed, HasGivenUp, MayNotFlush, StayKnown}
 use Rattle.cat_commits.proofs.reading.Reading.{passed}
 use Rattle.cat_ledger_state.proofs.Results.{either_err}
 use Rattle.cat_ledger_state.proofs.Counting.{given_again, known_still}
@@ -214,3 +216,33 @@ returns-in_err-add_segment-clause-fails g c = quiet_counts _ c.from_residual-in_
 
 pub returns-in_err-add_segment-clause-refusal : goal.returns-in_err-add_segment-clause-refusal
 returns-in_err-add_segment-clause-refusal g c = passed (λ (e : Refusal). (e ≡ Memory) ⊎ (e ≡ Device) ⊎ (e ≡ Spent)) _ _ c.from_residual-in_err-add_segment.ensures (inl refl)
+
+-- ---- the files that it leaves alone
+
+pub returns-in-Ok-clause-crash : goal.returns-in-Ok-clause-crash
+returns-in-Ok-clause-crash g c =
+    let could = g.D.Holder.may_leave c.args.device.now in
+    let can = g.D.Holder.may_leave c.write_last.new.device in
+    subst (λ s. (q : FileName) → is_begun (flush_begins s) q ≡ false → NoMore (could q) (can q)) c.self.view_is
+    (other_files c.self.inside.next_segment (λ q. NoMore (could q) (can q)) c.in-Ok.ensures.crash)
+
+pub returns-in-Err-clause-crash : goal.returns-in-Err-clause-crash
+returns-in-Err-clause-crash g c =
+    let could = g.D.Holder.may_leave c.args.device.now in
+    let can = g.D.Holder.may_leave c.write_last.new.device in
+    subst (λ s. (q : FileName) → is_begun (flush_begins s) q ≡ false → NoMore (could q) (can q)) c.self.view_is
+    (other_files c.self.inside.next_segment (λ q. NoMore (could q) (can q)) c.in-Err.ensures.crash)
+
+-- ---- it doesn't stand
+
+pub returns-in_err-add_segment-clause-err : goal.returns-in_err-add_segment-clause-err
+returns-in_err-add_segment-clause-err g c =
+    let left = record (shape_of_core c.self.inside) { leaves = c.add_segment.new.current; users = c.add_segment.new.refs } in
+    let same : left ≡ shape_of_core c.self.inside = λ i. record (shape_of_core c.self.inside) { leaves = c.in_err-add_segment.ensures.err.0 i; users = c.in_err-add_segment.ensures.err.1 i } in
+    either_err c.from_residual-in_err-add_segment.result (inl (same ∙ c.self.view_is, λ q. refl))
+
+pub returns-in_err-add_segment-clause-known : goal.returns-in_err-add_segment-clause-known
+returns-in_err-add_segment-clause-known g c =
+    either_err c.from_residual-in_err-add_segment.result
+    (subst (λ s. StayKnown s.users c.add_segment.new.refs) c.self.view_is
+    (λ q known. subst (λ us. is_known us q ≡ true) (sym c.in_err-add_segment.ensures.err.1) known))

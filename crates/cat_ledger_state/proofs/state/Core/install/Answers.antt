@@ -1,13 +1,14 @@
-use Rattle.std.proofs.Common.{◌≤◌, ◌∙◌, [], ◌∷◌, inl, length, sym, ap, subst, arith}
+use Rattle.std.proofs.Common.{◌≤◌, ◌∙◌, [], ◌∷◌, inl, length, Option, refl, sym, ap, subst, arith}
 use Rattle.std.specs.Prelude.{option_map}
 use Rattle.cat_model.specs.Files.{Name}
 use Rattle.cat_model.specs.Limits.{segment_limit}
+use Rattle.cat_merge.specs.files.Making.{InMaking}
 use Rattle.cat_ledger_laws.specs.model.Users.{Changes}
 use Rattle.cat_ledger_laws.proofs.shape.MergeInstalls.{installs_keep}
 use Rattle.cat_ledger_state.specs.Cores.{StayKnown, shape_of_core}
 use Rattle.cat_ledger_state.proofs.Counting.{known_after}
 use Rattle.cat_ledger_state.specs.Installs.{HasAllPassed, HasFailed, HasInstalled, IsOfMerge}
-use Rattle.cat_ledger_state.proofs.Merging.{of_merge, still_under, none_under}
+use Rattle.cat_ledger_state.proofs.Merging.{of_merge, source_counted, still_under, none_under}
 use Rattle.cat_ledger_state.proofs.Failing.{writing_counts}
 use Rattle.cat_ledger_state.proofs.Installing.{may_install, fails, fails_keep, installs, no_longer, installed_has, failed_has}
 use Rattle.cat_ledger_state.proofs.Known.{given_past, merged_past, merging_taken, taken_past}
@@ -120,3 +121,13 @@ returns-clause-fails g c = c.in_default-done.ensures.fails
 
 pub returns-clause-rises : goal.returns-clause-rises
 returns-clause-rises g c = (writing_counts _ c.in_default-done.ensures.fails).rises
+
+pub unreachable-requires : goal.unreachable-requires
+unreachable-requires g c =
+    subst (λ (o : Option InMaking). HasAllPassed (option_map (λ m. m.shape) o)) (sym c.take.ensures.value ∙ c.in_default.is)
+    (subst (λ s. HasAllPassed s.merging) (sym c.self.view_is) c.requires)
+
+pub give_source-requires : goal.give_source-requires
+give_source-requires g c =
+    source_counted (shape_of_core c.self.inside) c.self.inside.merging c.in-Some.merge c.number.result c.self.invariant.shape refl
+    (sym c.take.ensures.value ∙ c.in-Some.is) c.number.ensures
