@@ -1,4 +1,4 @@
-use Rattle.std.proofs.Common.{◌≡◌, ℕ, ◌+◌, ◌-◌, ◌<◌, ◌≤◌, Err, List, Ok, Result, [], ◌∷◌, ◌++◌, length, length-append, take, sym, ◌∙◌, ap, subst, inl, inr, true, false, arith, refl}
+use Rattle.std.proofs.Common.{◌≡◌, ◌+◌, ◌-◌, ◌<◌, ◌≤◌, Err, List, Ok, Result, [], ◌∷◌, ◌++◌, length, length-append, take, sym, ◌∙◌, ap, subst, inl, inr, true, false, arith, refl}
 use Rattle.std.specs.Prelude.{IfErr, ◌⊎◌}
 use Rattle.cat_base.specs.declared.refusal.Refusal.{Refusal}
 use Rattle.cat_base.specs.declared.refusal.Refusal.TheVariants.{Device, Memory, Spent}
