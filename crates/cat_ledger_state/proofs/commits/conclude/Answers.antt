@@ -1,5 +1,5 @@
-use Rattle.std.proofs.Common.{◌≡◌, ◌∷◌, ◌++◌, [], Some, filter, refl, sym, subst}
-use Rattle.std.specs.Prelude.{OnErr, OnOk}
+use Rattle.std.proofs.Common.{◌≡◌, ◌∷◌, ◌++◌, [], Some, filter, sym, subst}
+use Rattle.std.specs.Prelude.{OnOk}
 use Rattle.cat_model.specs.CommitFile.{CommitFile}
 use Rattle.cat_model.specs.State.{stays_kept}
 use Rattle.cat_ledger_state.proofs.commits.conclude.Goals as goal
@@ -11,6 +11,3 @@ returns-in-Ok-clause-kept c =
     subst (λ r. OnOk r (c.keep.new.commits.items
     ≡ filter (λ (x : CommitFile). stays_kept c.args.snapshots.now (Some c.args.ready.draft.commit.generation) x.generation) c.args.commits.now.items ++ c.args.ready.draft.commit ∷ []))
     (sym c.in-Ok.is) kept
-
-pub returns-in-Err-clause-unlisted : goal.returns-in-Err-clause-unlisted
-returns-in-Err-clause-unlisted c = subst (λ r. OnErr r (c.args.listing.now ≡ c.args.listing.now)) (sym c.in-Err.is) refl
