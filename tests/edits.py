@@ -464,9 +464,9 @@ def asked_for():
     return parser.parse_args()
 
 
-def try_all(batches, sources, asked, tell):
+def try_all(batches, libraries, sources, asked, tell):
     """Tries the batches of all crates, the crates side by side, tells what each edit comes to, and gives the checks that it took."""
-    libraries, checks, telling = kit.Libraries(sources), Checks(asked.beside), threading.Lock()
+    checks, telling = Checks(asked.beside), threading.Lock()
 
     def work(crate):
         with tempfile.TemporaryDirectory(prefix="edits-kept-") as kept:
@@ -504,6 +504,8 @@ def main():
     # Who is told to end ends the checks too.
     signal.signal(signal.SIGTERM, lambda *_: sys.exit(128 + signal.SIGTERM))
     asked, sources = asked_for(), Sources()
+    # What stands in out/ counts as it stood before an `rt ci` beside this makes anything.
+    libraries = kit.Libraries(sources)
     crates = asked.crates or sorted({*(it.name for it in EDITS.iterdir()), *(it for it in sources.uses if files_of(it))})
     for it in crates:
         if it not in sources.uses or not files_of(it):
@@ -528,7 +530,7 @@ def main():
         results.keep(edit, kind, text)
         print(f"edits: {edit.label}: {kind}: {text}", flush=True)
 
-    checks = try_all(batches, sources, asked, tell)
+    checks = try_all(batches, libraries, sources, asked, tell)
     for crate, seconds in checks.seconds.most_common():
         print(f"edits: {crate}: {sum(len(it.edits) for it in batches[crate])} edits took {checks.counts[crate]} checks and {seconds:.0f} s of a processor")
     wanted, word = (MISSED, "proved as they stand") if asked.as_they_stand else (REFUSED, "refused")
