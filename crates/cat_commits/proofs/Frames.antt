@@ -1,5 +1,5 @@
 -- What calls leave of a directory and how they fail, one after another.
-use Rattle.std.proofs.Common.{◌≡◌, ◌∙◌, ℕ, sym, subst, Result, Err, IfErr}
+use Rattle.std.proofs.Common.{◌≡◌, ◌∙◌, ℕ, sym, subst, Result, Ok, Err}
 use Rattle.std.specs.Prelude.{◌⊎◌, IsErr, IsErrAnd}
 use Rattle.std.proofs.lemmas.Result.{IfErr-weaker}
 use Rattle.cat_base.specs.declared.refusal.Refusal.{Refusal}
@@ -8,6 +8,7 @@ use Rattle.cat_directory.specs.declared.name.FileName.{FileName}
 use Rattle.cat_directory.specs.Devices.{CountsReading, FileContent, ReadingCount}
 use Rattle.cat_directory.specs.Frames.{FailsReading, OnlyReads}
 use Rattle.cat_ledger_laws.specs.shape.Ties.{ToldFiles}
+use Rattle.cat_commits.specs.reading.Refused.{CountsOpening, OpeningCount}
 use Rattle.cat_commits.proofs.reading.Parts.{as_one}
 use Rattle.cat_commits.proofs.reading.Reading.{counts_judged, counts_on, judged, passed}
 
@@ -59,3 +60,13 @@ module _ {S X : Type 0} {can_fail : S → Type 0} {faults : S → ℕ} where
 -- a call that reads is refused for no other kind
 pub no_kind : (X : Type 0) (old new : ℕ) (e : Refusal) → ReadingCount old new e → e ≡ Kind → X
 no_kind X old new e counted is = absurd (subst (ReadingCount old new) is counted)
+
+-- what a call that reads counts, an opening counts too
+reading_opens : (old new : ℕ) (e : Refusal) → ReadingCount old new e → OpeningCount old new e
+reading_opens old new Kind counted = absurd counted
+reading_opens old new e counted = counted
+
+-- where a `?` passes its refusal on
+pub opening_counts : {T : Type 0} (old new : ℕ) (r : Result T Refusal) (e : Refusal) → IsErr r × IsErrAnd r (λ x. x ≡ e) → ReadingCount old new e → CountsOpening old new r
+opening_counts old new (Ok v) e so counted = absurd so.1
+opening_counts old new (Err x) e so counted = reading_opens old new x (subst (ReadingCount old new) (sym so.1) counted)

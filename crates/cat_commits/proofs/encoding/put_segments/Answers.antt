@@ -1,3 +1,4 @@
+use Rattle.std.proofs.lemmas.Result.{IfOk-from_err}
 use Rattle.std.proofs.lemmas.List.{take_all}
 use Rattle.std.proofs.Common.{ℕ, List, ◌++◌, take, sym, ap, ◌∙◌, append_assoc, arith}
 use Rattle.std.specs.List.{flat_map}
@@ -19,3 +20,6 @@ pub returns : goal.returns
 returns c =
     c.loop-segment.invariant
     ∙ ap (λ (l : List ListedSegment). c.args.out.now.items ++ flat_map spelled_listed l) (take_all c.loop-segment.segment-index c.args.segments.now (omega arith))
+
+pub returns-in_err-put_segment : goal.returns-in_err-put_segment
+returns-in_err-put_segment c = IfOk-from_err _ _ c.from_residual.ensures.0

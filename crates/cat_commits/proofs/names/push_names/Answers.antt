@@ -1,3 +1,4 @@
+use Rattle.std.proofs.lemmas.Result.{IfOk-from_err}
 use Rattle.std.proofs.Common.{◌≡◌, ◌==◌, ℕ, List, [], ◌∷◌, ◌++◌, Option, cond, map, sym, ap, ◌∙◌, append_assoc}
 use Rattle.std.specs.Prelude.{unwrap_or}
 use Rattle.std.proofs.lemmas.List.{map-append}
@@ -17,3 +18,12 @@ returns-in_default c =
     ∙ append_assoc old (Name.segment n ∷ []) (Name.source n ∷ [])
     ∙ ap (λ (m : ℕ). old ++ (Name.segment m ∷ Name.source m ∷ [])) c.number-number.ensures
     ∙ ap (λ (f : ℕ). old ++ (Name.segment s ∷ Name.source s ∷ cond (f == 0) [] (Name.live s f ∷ []))) none
+
+pub returns-in_err-push : goal.returns-in_err-push
+returns-in_err-push c = IfOk-from_err _ _ c.from_residual.ensures.0
+
+pub returns-in_err-push-2 : goal.returns-in_err-push-2
+returns-in_err-push-2 c = IfOk-from_err _ _ c.from_residual-in_err-push-2.ensures.0
+
+pub returns-in_err-push-3 : goal.returns-in_err-push-3
+returns-in_err-push-3 c = IfOk-from_err _ _ c.from_residual-in_err-push-3.ensures.0

@@ -1,3 +1,4 @@
+use Rattle.std.proofs.lemmas.Result.{IfOk-from_err}
 use Rattle.std.proofs.Common.{◌≡◌, ℕ, List, ◌+◌, ◌++◌, ◌∷◌, map, take, sym, ap, ◌∙◌, rules}
 use Rattle.std.specs.List.{flat_map}
 use Rattle.std.proofs.lemmas.List.{take_all}
@@ -29,3 +30,9 @@ returns c =
     c.loop-segment.invariant
     ∙ ap (λ (l : List ListedSegment). own ∷ flat_map listed_names (take c.loop-segment.segment-index l)) (sym same)
     ∙ ap (λ (l : List ListedSegment). own ∷ flat_map listed_names l) (take_all c.loop-segment.segment-index xs c.loop-segment-test.false ∙ same)
+
+pub returns-in_err-push : goal.returns-in_err-push
+returns-in_err-push c = IfOk-from_err _ _ c.from_residual.ensures.0
+
+pub returns-in_err-push_names : goal.returns-in_err-push_names
+returns-in_err-push_names c = IfOk-from_err _ _ c.from_residual-in_err-push_names.ensures.0

@@ -1,12 +1,13 @@
 use Rattle.cat_ledger_laws.specs.shape.Ties.{IsTold, ToldFiles}
 use Rattle.cat_directory.specs.Frames.{OnlyReads}
-use Rattle.std.proofs.Common.{◌≡◌, ◌≢◌, ◌++◌, rules, length, Some, ◌∙◌, ap, arith, ℕ, None, sym, take}
+use Rattle.std.proofs.Common.{◌≡◌, ◌≢◌, ◌++◌, rules, length, Some, ◌∙◌, ap, arith, ℕ, None, inr, refl, sym, take}
 use Rattle.std.proofs.lemmas.List.{length-append}
+use Rattle.std.proofs.lemmas.Result.{IfOk-from_err}
 use Rattle.cat_base.specs.declared.refusal.Refusal.{Refusal}
 use Rattle.cat_base.specs.declared.refusal.Refusal.TheVariants.{Damaged, Device, Memory}
 use Rattle.cat_model.specs.Text.{Text}
 use Rattle.cat_commits.proofs.reading.Reading.{passed, told_so, more_read, all_read, any_fault, counts_behind, counts_on, not_ok}
-use Rattle.cat_commits.proofs.Frames.{reads_on}
+use Rattle.cat_commits.proofs.Frames.{fails_judged, reads_on}
 use Rattle.cat_commits.proofs.reading.file.read_file.Goals as goal
 
 pub returns-in_err-bytes-clause-damaged : goal.returns-in_err-bytes-clause-damaged
@@ -126,3 +127,14 @@ returns-clause-fails g c = record { device = tt; counted = c.loop-alloc.invarian
 
 pub returns-clause-frame : goal.returns-clause-frame
 returns-clause-frame g c = c.loop-alloc.invariant.frame
+
+pub returns-in_err-extend_from_slice-clause-ok : goal.returns-in_err-extend_from_slice-clause-ok
+returns-in_err-extend_from_slice-clause-ok g c = IfOk-from_err _ _ c.from_residual-in_err-extend_from_slice.ensures.0
+
+pub returns-in_err-extend_from_slice-clause-damaged : goal.returns-in_err-extend_from_slice-clause-damaged
+returns-in_err-extend_from_slice-clause-damaged g c =
+    passed (λ (e : Refusal). e ≡ Damaged → (bs : Text) → g.S.Holder.bytes c.args.shelf.now c.args.name ≢ Some (Some bs)) _ Memory c.from_residual-in_err-extend_from_slice.ensures
+    (λ is. absurd (let no : Memory ≡ Damaged = is in cc))
+
+pub returns-in_err-extend_from_slice-clause-fails : goal.returns-in_err-extend_from_slice-clause-fails
+returns-in_err-extend_from_slice-clause-fails g c = fails_judged c.from_residual-in_err-extend_from_slice.ensures (c.in_ok-more.ensures.counted ∙ c.loop-alloc.invariant.count) (inr refl)

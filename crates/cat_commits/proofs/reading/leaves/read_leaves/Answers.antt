@@ -1,5 +1,6 @@
 use Rattle.std.proofs.lemmas.List.{take_all}
-use Rattle.std.proofs.Common.{◌≡◌, ◌≢◌, ◌<◌, List, Some, None, length, sym, subst, rules, ◌∙◌, arith}
+use Rattle.std.proofs.Common.{◌≡◌, ◌≢◌, ◌<◌, List, Some, None, length, inr, refl, sym, subst, ◌∙◌, arith}
+use Rattle.std.proofs.lemmas.Result.{IfOk-from_err}
 use Rattle.std.specs.List.{HoldsAt}
 use Rattle.cat_base.specs.declared.refusal.Refusal.{Refusal}
 use Rattle.cat_base.specs.declared.refusal.Refusal.TheVariants.{Damaged, Memory}
@@ -10,7 +11,7 @@ use Rattle.cat_ledger_laws.specs.model.Opening.{IsLeafOf, AreLeavesOf}
 use Rattle.cat_ledger_laws.specs.shape.OpeningLaws.{MayHold}
 use Rattle.cat_commits.specs.reading.Told.{Tells}
 use Rattle.cat_commits.proofs.reading.Reading.{any_fault, passed, not_ok}
-use Rattle.cat_commits.proofs.Frames.{fails_after, fails_on, reads_on, told_before}
+use Rattle.cat_commits.proofs.Frames.{fails_after, fails_judged, fails_on, reads_on, told_before}
 use Rattle.cat_commits.proofs.reading.Parts.{first_there, leaf_refuted, leaf_there, leaves_next}
 use Rattle.cat_commits.proofs.reading.leaves.read_leaves.Goals as goal
 
@@ -70,3 +71,14 @@ pub returns-clause-ok : goal.returns-clause-ok
 returns-clause-ok g c =
     subst (λ (l : List ListedSegment). AreLeavesOf (MayHold (g.S.Holder.bytes c.args.shelf.now)) c.args.schema.now l c.loop-segment.leaves.items)
     (take_all c.loop-segment.segment-index c.args.listed.now (omega arith)) c.loop-segment.invariant.read
+
+pub returns-in_err-push-clause-ok : goal.returns-in_err-push-clause-ok
+returns-in_err-push-clause-ok g c = IfOk-from_err _ _ c.from_residual-in_err-push.ensures.0
+
+pub returns-in_err-push-clause-damaged : goal.returns-in_err-push-clause-damaged
+returns-in_err-push-clause-damaged g c =
+    passed (λ (e : Refusal). e ≡ Damaged → (leaves : List model.Leaf) → AreLeavesOf (Tells (g.S.Holder.bytes c.args.shelf.now)) c.args.schema.now c.args.listed.now leaves → ⊥) _ Memory c.from_residual-in_err-push.ensures
+    (λ is. absurd (let no : Memory ≡ Damaged = is in cc))
+
+pub returns-in_err-push-clause-fails : goal.returns-in_err-push-clause-fails
+returns-in_err-push-clause-fails g c = fails_judged c.from_residual-in_err-push.ensures (c.in_ok-leaf.ensures.fails.counted ∙ c.loop-segment.invariant.count) (inr refl)

@@ -1,13 +1,15 @@
 use Rattle.cat_directory.specs.declared.name.FileName.TheVariants as file
 use Rattle.cat_ledger_laws.specs.shape.OpeningLaws.{MayHold}
-use Rattle.std.proofs.Common.{◌≡◌, true, false, rules, ◌≢◌, Some, None, ◌∙◌}
+use Rattle.std.proofs.Common.{◌≡◌, ℕ, subst, true, false, rules, ◌≢◌, Some, None, ◌∙◌}
+use Rattle.std.proofs.lemmas.Result.{IfOk-from_err}
+use Rattle.cat_directory.specs.Devices.{ReadingCount}
 use Rattle.cat_base.specs.declared.refusal.Refusal.{Refusal}
 use Rattle.cat_base.specs.declared.refusal.Refusal.TheVariants.{Damaged, Device, Kind, Memory}
 use Rattle.cat_ledger_laws.specs.model.Opening.{Restored, IsRestored, IsForeign}
 use Rattle.cat_ledger_laws.specs.shape.Ties.{ToldFiles}
 use Rattle.cat_commits.specs.reading.Told.{Tells}
 use Rattle.cat_commits.proofs.reading.Reading.{passed, any_fault, not_ok}
-use Rattle.cat_commits.proofs.Frames.{told_before, no_kind, reads_on}
+use Rattle.cat_commits.proofs.Frames.{told_before, no_kind, opening_counts, reads_on}
 use Rattle.cat_commits.proofs.reading.Parts.{not_restored, not_foreign, restored_is, other_leaves, told_leaves, listed_leaves, not_absent}
 use Rattle.cat_commits.proofs.reading.restored.read_commit.Goals as goal
 
@@ -149,3 +151,36 @@ returns-clause-frame g c = reads_on c.in_ok-commit.ensures.frame c.in_ok-leaves.
 
 pub returns-clause-counted : goal.returns-clause-counted
 returns-clause-counted g c = c.in_ok-leaves.ensures.fails.counted ∙ c.in_ok-commit.ensures.fails.counted
+
+pub returns-in_err-commit-clause-counted : goal.returns-in_err-commit-clause-counted
+returns-in_err-commit-clause-counted g c =
+    opening_counts (g.S.Holder.fault_count c.args.shelf.now) (g.S.Holder.fault_count c.read_own.new.shelf) _ _ c.from_residual.ensures c.in_err-commit.ensures.fails.counted
+
+pub returns-in_err-leaves-clause-counted : goal.returns-in_err-leaves-clause-counted
+returns-in_err-leaves-clause-counted g c =
+    opening_counts (g.S.Holder.fault_count c.args.shelf.now) (g.S.Holder.fault_count c.read_leaves.new.shelf) _ _ c.from_residual-in_err-leaves.ensures
+    (subst (λ (n : ℕ). ReadingCount n (g.S.Holder.fault_count c.read_leaves.new.shelf) c.in_err-leaves.field-0.0) c.in_ok-commit.ensures.fails.counted c.in_err-leaves.ensures.fails.counted)
+
+pub returns-in_err-well-clause-ok : goal.returns-in_err-well-clause-ok
+returns-in_err-well-clause-ok g c = IfOk-from_err _ _ c.from_residual-in_err-well.ensures.0
+
+pub returns-in_err-well-clause-damaged : goal.returns-in_err-well-clause-damaged
+returns-in_err-well-clause-damaged g c =
+    passed (λ (e : Refusal). e ≡ Damaged → (r : Restored) → IsRestored (Tells (g.S.Holder.bytes c.args.shelf.now)) c.args.schema.now c.args.generation r → ⊥) _ Memory c.from_residual-in_err-well.ensures
+    (λ is. absurd (let no : Memory ≡ Damaged = is in cc))
+
+pub returns-in_err-well-clause-own : goal.returns-in_err-well-clause-own
+returns-in_err-well-clause-own g c =
+    passed (λ (e : Refusal). e ≡ Damaged → IsForeign (Tells (g.S.Holder.bytes c.args.shelf.now)) c.args.schema.now c.args.generation → ⊥) _ Memory c.from_residual-in_err-well.ensures (λ is. absurd (let no : Memory ≡ Damaged = is in cc))
+
+pub returns-in_err-well-clause-foreign : goal.returns-in_err-well-clause-foreign
+returns-in_err-well-clause-foreign g c =
+    passed (λ (e : Refusal). e ≡ Kind → IsForeign (MayHold (g.S.Holder.bytes c.args.shelf.now)) c.args.schema.now c.args.generation) _ Memory c.from_residual-in_err-well.ensures (λ is. absurd (let no : Memory ≡ Kind = is in cc))
+
+pub returns-in_err-well-clause-device : goal.returns-in_err-well-clause-device
+returns-in_err-well-clause-device g c =
+    passed (λ (e : Refusal). e ≡ Device → g.S.Holder.can_fail c.args.shelf.now) _ Memory c.from_residual-in_err-well.ensures (λ is. absurd (let no : Memory ≡ Device = is in cc))
+
+pub returns-in_err-well-clause-counted : goal.returns-in_err-well-clause-counted
+returns-in_err-well-clause-counted g c =
+    opening_counts (g.S.Holder.fault_count c.args.shelf.now) (g.S.Holder.fault_count c.read_leaves.new.shelf) _ Memory c.from_residual-in_err-well.ensures (c.in_ok-leaves.ensures.fails.counted ∙ c.in_ok-commit.ensures.fails.counted)

@@ -1,3 +1,4 @@
+use Rattle.std.proofs.lemmas.Result.{IfOk-from_err}
 use Rattle.std.proofs.Common.{List, subst, arith}
 use Rattle.std.proofs.lemmas.List.{take_all}
 use Rattle.cat_ledger_laws.specs.shape.Shapes.{ListedLive}
@@ -14,3 +15,6 @@ pub returns : goal.returns
 returns c =
     subst (λ (l : List ListedLive). AreSpelled c.args.generation (new_entries c.args.generation l) c.loop-entry.files.items)
     (take_all c.loop-entry.entry-index c.args.entries.now (omega arith)) c.loop-entry.invariant
+
+pub returns-in_err-push_live_file : goal.returns-in_err-push_live_file
+returns-in_err-push_live_file c = IfOk-from_err _ _ c.from_residual.ensures.0

@@ -1,3 +1,4 @@
+use Rattle.std.proofs.lemmas.Result.{IfOk-from_err}
 use Rattle.std.proofs.Common.{◌≡◌, ◌∙◌, Some, None, inl, inr, map}
 use Rattle.std.specs.Prelude.{◌⊎◌, false, true}
 use Rattle.cat_base.specs.declared.refusal.Refusal.{Refusal}
@@ -132,3 +133,21 @@ returns-clause-counted g c =
 
 pub returns-clause-device : goal.returns-clause-device
 returns-clause-device g c = tt
+
+pub returns-in_err-write_synced-clause-ok : goal.returns-in_err-write_synced-clause-ok
+returns-in_err-write_synced-clause-ok g c = IfOk-from_err _ _ c.from_residual.ensures.0
+
+pub returns-in_err-write_synced-clause-last : goal.returns-in_err-write_synced-clause-last
+returns-in_err-write_synced-clause-last g c = IfOk-from_err _ _ c.from_residual.ensures.0
+
+pub returns-in_err-write_synced-clause-lasts : goal.returns-in_err-write_synced-clause-lasts
+returns-in_err-write_synced-clause-lasts g c = IfOk-from_err _ _ c.from_residual.ensures.0
+
+pub returns-in_err-write_last-clause-ok : goal.returns-in_err-write_last-clause-ok
+returns-in_err-write_last-clause-ok g c = IfOk-from_err _ _ c.from_residual-in_err-write_last.ensures.0
+
+pub returns-in_err-write_last-clause-last : goal.returns-in_err-write_last-clause-last
+returns-in_err-write_last-clause-last g c = IfOk-from_err _ _ c.from_residual-in_err-write_last.ensures.0
+
+pub returns-in_err-write_last-clause-lasts : goal.returns-in_err-write_last-clause-lasts
+returns-in_err-write_last-clause-lasts g c = IfOk-from_err _ _ c.from_residual-in_err-write_last.ensures.0

@@ -1,3 +1,4 @@
+use Rattle.std.proofs.lemmas.Result.{IfOk-from_err}
 use borrow.Author.Count.{below_more}
 use Rattle.std.proofs.Common.{◌≡◌, ℕ, ◌+◌, ◌<◌, ◌≤◌, List, [], ◌∷◌, ◌++◌, length, map, get_or, sym, ap, ap₂, ◌∙◌, subst, arith}
 use Rattle.std.proofs.lemmas.List.{get_or_read, map_more, take_all}
@@ -31,3 +32,12 @@ returns c = record {
   ok = c.loop-leaf.invariant.made ∙ ap (map (listed_after c.args.earlier.now c.args.generation)) (take_all c.loop-leaf.leaf-index c.args.leaves.now c.loop-leaf-test.false);
   rows = λ k d lt. c.loop-leaf.invariant.rows k d (omega (arith, lt, c.loop-leaf-test.false));
 }
+
+pub returns-in_err-entries : goal.returns-in_err-entries
+returns-in_err-entries c = record { ok = IfOk-from_err _ _ c.from_residual.ensures.0; rows = IfOk-from_err _ _ c.from_residual.ensures.0 }
+
+pub returns-in_err-listed_next : goal.returns-in_err-listed_next
+returns-in_err-listed_next c = record { ok = IfOk-from_err _ _ c.from_residual-in_err-listed_next.ensures.0; rows = IfOk-from_err _ _ c.from_residual-in_err-listed_next.ensures.0 }
+
+pub returns-in_err-push : goal.returns-in_err-push
+returns-in_err-push c = record { ok = IfOk-from_err _ _ c.from_residual-in_err-push.ensures.0; rows = IfOk-from_err _ _ c.from_residual-in_err-push.ensures.0 }

@@ -1,3 +1,4 @@
+use Rattle.std.proofs.lemmas.Result.{IfOk-from_err}
 use Rattle.std.proofs.Common.{List, [], ◌∷◌, ◌++◌, map, sym, ap, ap₂, ◌∙◌, arith}
 use Rattle.std.proofs.lemmas.List.{map_more, take_all}
 use Rattle.cat_ledger_laws.specs.shape.Shapes.{ListedLive}
@@ -15,3 +16,9 @@ loop-entry-preserved c =
 
 pub returns : goal.returns
 returns c = c.loop-entry.invariant ∙ ap (map told) (take_all c.loop-entry.entry-index c.args.entries.now (omega arith))
+
+pub returns-in_err-segments : goal.returns-in_err-segments
+returns-in_err-segments c = IfOk-from_err _ _ c.from_residual.ensures.0
+
+pub returns-in_err-push : goal.returns-in_err-push
+returns-in_err-push c = IfOk-from_err _ _ c.from_residual-in_err-push.ensures.0

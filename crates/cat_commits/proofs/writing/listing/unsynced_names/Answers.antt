@@ -1,3 +1,4 @@
+use Rattle.std.proofs.lemmas.Result.{IfOk-from_err}
 use Rattle.std.proofs.lemmas.List.{take_all}
 use Rattle.std.proofs.Common.{◌≡◌, List, ◌++◌, is_some, ap, ap₂, ◌∙◌, arith}
 use Rattle.cat_model.specs.Files.{Name}
@@ -19,3 +20,6 @@ loop-entry-preserved c =
 pub returns : goal.returns
 returns c =
     c.loop-entry.invariant ∙ ap (unsynced_in c.args.earlier.now c.args.generation) (take_all c.loop-entry.entry-index c.args.entries.now (omega arith))
+
+pub returns-in_err-push_unsynced : goal.returns-in_err-push_unsynced
+returns-in_err-push_unsynced c = IfOk-from_err _ _ c.from_residual.ensures.0

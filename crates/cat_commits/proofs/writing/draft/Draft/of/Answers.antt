@@ -1,5 +1,6 @@
 use Rattle.std.proofs.Common.{List, sym, ◌∙◌, subst}
 use Rattle.std.specs.Prelude.{All}
+use Rattle.std.proofs.lemmas.Result.{IfOk-from_err}
 use Rattle.cat_ledger_laws.specs.shape.Shapes.{ListedLive}
 use Rattle.cat_commits.specs.writing.Drafts.{AreSpelled, new_entries}
 use Rattle.cat_commits.proofs.writing.Drafting.{IsReady, all_ready, is_drafted}
@@ -16,3 +17,18 @@ invariant_of-result c =
     c.in_ok-commit.ensures c.in_ok-listing.ensures.unsynced c.in_ok-own.ensures.0 c.in_ok-own.ensures.1
     (subst (λ (xs : List ListedLive). AreSpelled c.args.heading.generation (new_entries c.args.heading.generation xs) c.in_ok-live_files.live_files.items) c.entries.ensures c.in_ok-live_files.ensures)
     c.in_ok-names.ensures
+
+pub returns-in_err-listing : goal.returns-in_err-listing
+returns-in_err-listing c = record { ok = IfOk-from_err _ _ c.from_residual.ensures.0 }
+
+pub returns-in_err-live_files : goal.returns-in_err-live_files
+returns-in_err-live_files c = record { ok = IfOk-from_err _ _ c.from_residual-in_err-live_files.ensures.0 }
+
+pub returns-in_err-commit : goal.returns-in_err-commit
+returns-in_err-commit c = record { ok = IfOk-from_err _ _ c.from_residual-in_err-commit.ensures.0 }
+
+pub returns-in_err-own : goal.returns-in_err-own
+returns-in_err-own c = record { ok = IfOk-from_err _ _ c.from_residual-in_err-own.ensures.0 }
+
+pub returns-in_err-names : goal.returns-in_err-names
+returns-in_err-names c = record { ok = IfOk-from_err _ _ c.from_residual-in_err-names.ensures.0 }
