@@ -19,7 +19,8 @@ import time
 from limits import Broken, Child
 
 # The calls that are stopped, by their numbers on x86-64: what is told of each, and which argument is the descriptor, or the path.
-BY_DESCRIPTOR = {0: "read", 1: "write", 8: "seek", 17: "read", 18: "write", 73: "lock", 74: "sync", 75: "sync", 77: "cut", 217: "list", 332: "size"}
+BY_DESCRIPTOR = {0: "read", 17: "read", 1: "write", 18: "write", 8: "seek", 73: "lock", 74: "sync", 75: "sync", 77: "cut"}
+BY_DESCRIPTOR.update({217: "list", 332: "size"})
 BY_PATH = {87: 0, 257: 1, 263: 1}
 DELETES = (87, 263)
 # The size of what is open is asked for by its descriptor, and what an entry of a folder is by its path, where none is given.
