@@ -1,7 +1,10 @@
-"""A program whose calls of the system fail where a test says so: those that it makes on the files of one folder.
+"""A program whose calls of the system fail where a test says so: those that it makes on the files of one folder, and, where a test
+asks for it, on standard input and output and for memory.
 
 The kernel stops each of these calls and asks (seccomp's user notification, Linux 5.6 or later on x86-64), and a thread of the test
 answers: let it through, or fail it with this error, or do a part of it. So the program that is tried is the one that is released.
+
+usage: python3 tests/faulty.py         (the status is 0 where this system lets a test do all that)
 """
 
 import ctypes
@@ -10,11 +13,14 @@ import fcntl
 import mmap
 import os
 import select
+import signal
 import socket
 import struct
 import sys
+import tempfile
 import threading
 import time
+from pathlib import Path
 
 from limits import Broken, Child
 
@@ -325,6 +331,20 @@ class Faulty(Child):
             os.close(file)
 
 
+def can_answer_calls():
+    """Whether a test may also look into the memory of its child and use the descriptors of that: a file of two bytes is read by one."""
+    with tempfile.TemporaryDirectory(prefix="faulty-") as folder:
+        file = Path(folder, "said")
+        file.write_bytes(b"ab")
+        child = Faulty(folder, "cat", str(file), bytes_at_once=1)
+        try:
+            told = child.process.stdout.read()
+        finally:
+            child.kill()
+    return told == b"ab" and child.calls.count(("read", "said")) > 1
+
+
 if __name__ == "__main__":
-    # tests/runs.sh asks so whether the tests that stop calls can be run here.
-    sys.exit(0 if can_stop_calls() else 1)
+    # tests/runs.sh asks so whether the tests that stop calls can be run here. Where a call is never answered, this is ended.
+    signal.alarm(20)
+    sys.exit(0 if can_stop_calls() and can_answer_calls() else 1)
