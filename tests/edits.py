@@ -10,9 +10,12 @@ its body is taken out, and a hole stands for its proof. An edit is refused where
 a goal of its own function is left open, or an answer to one no longer proves it. A line '# clause: NAME' names the clause of its
 function that refuses it, and '# clause: (none)' says that a goal inside it does, as of a call or a loop: the other clauses of what
 the function ensures are then left out. Where nothing but names that are gone tells against it, it shows nothing of the contract,
-and counts as not refused. The goals in an edit's line '# leave: GOAL..' are left out: others refuse it sooner. What isn't refused
-beside such functions is tried again in a copy that has each with its body and its proof, and what comes of that stands. An edit
-with a line '# compiler: TEXT' is one that must not compile: the compiler has to refuse it by an error with this text.
+and counts as not refused. The goals in an edit's line '# leave: GOAL..' are left out: others refuse it sooner. A line
+'# answer: GOAL c = TERM' answers a goal of its function which the tactics prove where the body is right, and lines
+'# use: MODULE.{..}' bring what the term names: an answer that no longer fits refuses at once, where a search has to come to its
+end. What isn't refused beside such functions is tried again in a copy that has each with its body and its proof, and what comes
+of that stands. An edit with a line '# compiler: TEXT' is one that must not compile: the compiler has to refuse it by an error
+with this text.
 
 A crate is tried over the libraries below it as `rt ci` built and kept them on this machine, or else over those that `rt lib`
 builds. What an edit came to is kept beside the kit by the checksums of all that it stands on, and not tried again before one
@@ -45,7 +48,7 @@ sys.path.insert(0, str(Path(__file__).resolve().parent))
 
 import kit  # noqa: E402
 from functions import answers_all_clauses, can_be_copied, clause_of_goal, clauses_of, copy_function, goals_answered  # noqa: E402
-from functions import leave_clauses, leave_contracts, leave_goals, unit_at, unit_named, units_of  # noqa: E402
+from functions import give_answers, leave_clauses, leave_contracts, leave_goals, unit_at, unit_named, units_of  # noqa: E402
 from sources import TOP, Sources  # noqa: E402
 
 EDITS = TOP / "tests" / "edits"
@@ -77,6 +80,8 @@ class Edit:
         self.goals_left = []
         # The clauses of its function that are left, where a line says which refuses it.
         self.clauses = None
+        # Answers to goals of its function that have none: the goal's name beside the edit, and without it, and the term; and what the terms name.
+        self.answers, self.uses = [], []
         # What the compiler has to say of an edit that must not compile.
         self.compiler = None
         # Whether it stands in no function, so that it changes more than one.
@@ -107,6 +112,12 @@ class Edit:
                 self.goals_left += line[len("# leave: ") :].split()
             elif line.startswith("# clause: "):
                 self.clauses = [it for it in line[len("# clause: ") :].split() if it != "(none)"]
+            elif line.startswith("# answer: "):
+                goal, _, term = line[len("# answer: ") :].partition(" ")
+                beside, _, alone = goal.partition("|")
+                self.answers.append((beside, alone or beside, term.strip()))
+            elif line.startswith("# use: "):
+                self.uses.append(line[len("# ") :].replace("use: ", "use ", 1).strip())
             elif line.startswith("# lemma: "):
                 # The files of lemmas that say of the type what the functions' contracts rest on.
                 self.lemmas += line[len("# lemma: ") :].split()
@@ -146,8 +157,8 @@ class Edit:
             units[name] = unit
         # A goal that is left out beside its answer would be declared twice, and that alone would refuse any edit.
         for unit in units.values():
-            for goal in goals_answered(room, unit, self.goals_left):
-                return None, f"a line '# leave:' names {goal}, which has an answer"
+            for goal in goals_answered(room, unit, [*self.goals_left, *(it for it, _, _ in self.answers)]):
+                return None, f"a line '# leave:' or '# answer:' names {goal}, which has an answer"
         for unit in units.values():
             text = texts.get(unit.file) or (room / unit.file).read_text(encoding="utf-8")
             named = {name for name, _, _ in clauses_of(text.split("\n"), unit)}
@@ -178,6 +189,7 @@ class Edit:
             goals = [it for it in goals if clause_of_goal(it) in (None, *self.clauses)]
         if not as_it_stands:
             leave_goals(self.crate, room, unit, goals)
+        give_answers(self.crate, room, unit, [(alone if as_it_stands else beside, term) for beside, alone, term in self.answers], self.uses)
 
     def in_text(self, text):
         """The text of its function as it changes that, or None where it doesn't all stand there."""
@@ -306,11 +318,10 @@ def applied(edits, room, as_they_stand):
     return units
 
 
-def check(batch, edits, words, kept, checks, as_they_stand=False):
+def check(batch, edits, words, checks, as_they_stand=False):
     """Checks the crate with these edits of the batch, and gives what each came to; one that doesn't go with the others stands in no answer.
 
-    Where the words let holes pass, each function that no edit changes is left with its contract alone. The folder `kept` has
-    what earlier checks of the crate proved, each by the texts that it was proved of."""
+    Where the words let holes pass, each function that no edit changes is left with its contract alone."""
     with tempfile.TemporaryDirectory(prefix="edits-") as room:
         room = Path(room)
         copied(batch.crate, room)
@@ -323,7 +334,7 @@ def check(batch, edits, words, kept, checks, as_they_stand=False):
                 edit.leave_out(room, found[0], as_they_stand)
         # What an edit adds or takes away is one line for one line, so the places of functions stay.
         asked = [word for name in sorted({it.path for it in changed}) for word in ("--only", name)]
-        ran = checks.run(batch.crate, [*words, *asked, "--incremental", kept], room)
+        ran = checks.run(batch.crate, [*words, *asked], room)
         if LOGS:
             named = f"{batch.crate}-{batch.number if len(edits) > 1 else edits[0].name}{'-whole' if is_whole else ''}"
             Path(LOGS, f"{named}.log").write_text(f"{' '.join(asked)}\n{ran.stdout}", encoding="utf-8")
@@ -428,7 +439,7 @@ class Results:
             pass
 
 
-def tried(batch, libraries, kept, checks, as_they_stand):
+def tried(batch, libraries, checks, as_they_stand):
     """What each edit of the batch comes to.
 
     Beside functions with nothing but their contracts a check may only refuse: what else it says, a check of the whole has to
@@ -439,17 +450,17 @@ def tried(batch, libraries, kept, checks, as_they_stand):
     found, left = {}, batch.edits
     # Of a text that must not compile the prover sees nothing, and the compiler has to see it all.
     if as_they_stand or not any(it.compiler for it in left):
-        found = check(batch, left, [*words, "--allow-holes"], kept, checks, as_they_stand)
+        found = check(batch, left, [*words, "--allow-holes"], checks, as_they_stand)
         # One that doesn't compile keeps the others from the prover.
         for edit in left if len(left) > 1 else []:
             if edit not in found or found[edit][0] in (BAD, UNTRIED):
-                found.update(check(batch, [edit], [*words, "--allow-holes"], kept, checks, as_they_stand))
+                found.update(check(batch, [edit], [*words, "--allow-holes"], checks, as_they_stand))
         left = [] if as_they_stand else [it for it in left if it not in found or found[it][0] != REFUSED]
     if left:
-        found.update(check(batch, left, words, kept, checks))
+        found.update(check(batch, left, words, checks))
     for edit in left:
         if edit not in found or found[edit][0] in (BAD, UNTRIED) and len(left) > 1:
-            found.update(check(batch, [edit], words, kept, checks))
+            found.update(check(batch, [edit], words, checks))
     return found
 
 
@@ -469,12 +480,11 @@ def try_all(batches, libraries, sources, asked, tell):
     checks, telling = Checks(asked.beside), threading.Lock()
 
     def work(crate):
-        with tempfile.TemporaryDirectory(prefix="edits-kept-") as kept:
-            for batch in batches[crate]:
-                found = tried(batch, libraries, kept, checks, asked.as_they_stand)
-                with telling:
-                    for edit, (kind, text) in found.items():
-                        tell(edit, kind, text)
+        for batch in batches[crate]:
+            found = tried(batch, libraries, checks, asked.as_they_stand)
+            with telling:
+                for edit, (kind, text) in found.items():
+                    tell(edit, kind, text)
 
     # The longest checks first, of those whose libraries are there.
     left, running, lanes = sorted(batches, key=lambda it: -sources.size_below(it)), set(), max(1, asked.lanes or kit.lanes())

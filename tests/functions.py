@@ -332,6 +332,17 @@ def leave_goals(crate, room, unit, goals):
     own.write_text(text + "".join(f"\npub {it} : goal.{it}\n{it} = absurd ?\n" for it in goals), encoding="utf-8")
 
 
+def give_answers(crate, room, unit, answers, uses):
+    """Gives each of these goals of the function, named with what its answer takes, this term for its answer, and brings what the terms name."""
+    if not answers:
+        return
+    own = room.joinpath("proofs", *unit.path.split("::"), "Answers.antt")
+    text = own.read_text(encoding="utf-8") if own.is_file() else f"use Rattle.{crate}.proofs.{unit.path.replace('::', '.')}.Goals as goal\n"
+    own.parent.mkdir(parents=True, exist_ok=True)
+    given = "".join(f"\npub {goal} : goal.{goal}\n{goal} {term}\n" for goal, term in answers)
+    own.write_text("".join(f"{it}\n" for it in uses) + text + given, encoding="utf-8")
+
+
 def clauses_of(lines, unit):
     """The clauses of what the function ensures, in these lines of its file: the name of each, or None, and the rows that it begins and ends on."""
     found, row = [], unit.head
