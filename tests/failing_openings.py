@@ -265,9 +265,11 @@ def without_bytes(told):
 
 
 def expect_judged(case, judged, wanted, is_all):
-    """The first line, the status and the complaint are these; and no damage is told."""
+    """The first line, the status and the complaint are these; no damage is told, and no file that somebody may delete: nobody knows what
+    a commit needs whose own file wasn't read."""
     told, *rest = judged
     first = "".join(told.splitlines(True)[:1])
+    expect(f"which files no commit names with {case}", [it for it in told.splitlines() if "no commit names it" in it], [])
     expect(f"whether damage is told with {case}", "damaged" in told or "\n  " in told, False)
     counted_of = without_bytes if is_all else str
     expect(f"what is told with {case}", (counted_of(first), *rest), (counted_of(wanted[0]), *wanted[1:]))

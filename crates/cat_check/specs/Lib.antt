@@ -1,4 +1,5 @@
 pub mod Said
+pub mod Unread
 pub mod Judged
 pub mod Below
 pub mod Standing

@@ -10,12 +10,11 @@ ghost use Rattle.cat_check.specs.Checked.{IsChecked, IsNewestReport};
 
 use crate::commits::commits_below;
 use crate::report::{Report, report_of};
-use crate::unnamed::{add_named, names_left};
+use crate::unnamed::unnamed_of;
 use cat_base::{Generation, Refusal};
 use cat_commits::reading::newest_commit;
 use cat_directory::{Directory, FileName, Shelf};
 use std::alloc::{AllocError, Global};
-use std::collections::HashSet;
 
 /// What is found of a directory. (Lucene: `CheckIndex.Status`.)
 #[derive(Drop)]
@@ -24,7 +23,7 @@ pub struct Checked {
     pub newest: Option<Report>,
     /// Of the others, the newer first.
     pub older: Vec<Report>,
-    /// The files that no commit names.
+    /// The files that no commit names. None are told where the own file of a commit couldn't be read, since that one may need them.
     pub unnamed: Vec<FileName>,
 }
 
@@ -78,23 +77,6 @@ fn older_reports<S: Shelf>(
     Ok(reports)
 }
 
-/// Those of the names that none of the commits has.
-fn unnamed_by(
-    alloc: Global,
-    names: &[FileName],
-    newest: &Option<Report>,
-    older: &[Report],
-) -> Result<Vec<FileName>, AllocError> {
-    let mut named = HashSet::new(alloc);
-    if let Some(report) = newest {
-        add_named(&mut named, report)?;
-    }
-    for report in older {
-        add_named(&mut named, report)?;
-    }
-    names_left(alloc, names, &named)
-}
-
 /// Judges the directory without changing it: each of its commits, as an opening at it would under its own fields. (Lucene:
 /// `CheckIndex.checkIndex`.)
 ///
@@ -108,7 +90,7 @@ pub fn check<D: Directory + Shelf>(alloc: Global, device: &mut D) -> Result<Chec
     let names = device.names(alloc)?;
     let newest = newest_report(alloc, device, &names)?;
     let older = older_reports(alloc, device, &names)?;
-    let unnamed = unnamed_by(alloc, &names, &newest, &older)?;
+    let unnamed = unnamed_of(alloc, &names, &newest, &older)?;
     Ok(Checked {
         newest,
         older,

@@ -1,10 +1,11 @@
-use Rattle.std.proofs.Common.{◌∙◌, List, sym, subst}
+use Rattle.std.proofs.Common.{◌≡◌, ◌∙◌, List, true, sym, subst}
 use Rattle.std.specs.Prelude.{map}
 use Rattle.std.specs.List.Sorted.{IsStrictlySortedBy}
 use Rattle.cat_directory.specs.declared.name.FileName.{FileName}
 use Rattle.cat_directory.specs.Devices.{Lists}
 use Rattle.cat_directory.specs.Names.{name_cmp}
 use Rattle.cat_check.specs.Below.{AreOlder}
+use Rattle.cat_check.specs.Unread.{is_any_unread}
 use Rattle.cat_directory.specs.Frames.{OnlyReads}
 use Rattle.cat_check.specs.declared.report.Report.{Report}
 use Rattle.cat_commits.proofs.Frames.{reads_on}
@@ -24,4 +25,5 @@ returns-clause-ok g c =
       older = subst (λ (names : List FileName). AreOlder names (map (λ (r : Report). r.generation) c.in_ok-older.older.items)) (c.deref-2.ensures.value ∙ sym c.deref.ensures.value)
           (c.in_ok-older.ensures.older (subst (λ (names : List FileName). IsStrictlySortedBy name_cmp names) (c.deref.ensures.value ∙ sym c.deref-2.ensures.value) listed.rising));
       judged = all_before c.in_ok-older.older.items (reads_on frame c.in_ok-newest.ensures.frame) c.in_ok-older.ensures.judged;
+      known = λ any. c.in_ok-unnamed.ensures (subst (λ (reports : List Report). is_any_unread c.in_ok-newest.newest reports ≡ true) (sym c.deref-4.ensures.value) any);
     }
