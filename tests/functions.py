@@ -157,6 +157,18 @@ def cycle_of(lines, head):
     return cycle
 
 
+def attributes_of(lines, head):
+    """The lines of what stands in brackets above the function with this head, as what its tactics may use, but for its cycle."""
+    above = []
+    for row in range(head - 1, -1, -1):
+        line = lines[row].strip()
+        if not line or line.endswith(("}", "{", ";")):
+            break
+        if not line.startswith(("//", "#[cycle(")):
+            above.insert(0, lines[row])
+    return above
+
+
 def unit_at(room, file, text, at):
     """The function of the file that has this place in its head or its body, or None."""
     lines = text.split("\n")
@@ -247,6 +259,7 @@ def copy_function(crate, room, unit, name, change):
             lines = [f"#[cycle({unit.cycle}{suffix})]", *(in_copy(members, suffix, row) for row in lines)]
         else:
             lines[0] = re.sub(rf"\bfn {old}\b", f"fn {name}", lines[0], count=1)
+        lines = [*attributes_of(whole, it.head), *lines]
         text += ["", *([f"{unit.header.rstrip()} {{"] if unit.header else []), *lines, *(["}"] if unit.header else [])]
     file.write_text("\n".join([*text, ""]), encoding="utf-8")
     path, of = f"{unit.path.rpartition('::')[0]}::{name}".removeprefix("::"), proof_path(unit)
