@@ -1,7 +1,7 @@
 #!/usr/bin/env python3
 """Tries the must-fail edits of tests/edits, and of crates/*/must-fail: wrong bodies, each of which its own crate's contracts have to refuse.
 
-usage: tests/edits.py [--anew] [--as-they-stand] [--beside FILE] [--lanes N] [--only LETTERS] [CRATE..]
+usage: tests/edits.py [--anew] [--as-they-stand] [--beside FILE] [--by-search] [--lanes N] [--only LETTERS] [CRATE..]
 
 All edits of a crate go into one copy of it, and one check proves the functions that they change; of two edits of one function
 the second changes a copy of it, which has its contract and its proof under another name, and its cycle with it where it is in
@@ -26,6 +26,8 @@ libraries below it are proved, by processors that `rt ci` leaves idle.
 
 With --as-they-stand the edits are left out, and nothing is kept: the same checks have to prove each function, so that what
 refuses an edit is the edit. The last line is then `N proved as they stand, M not`.
+
+With --by-search the edits' own answers are left out, so that the tactics have to fail where they stood, and nothing is kept.
 """
 
 import argparse
@@ -189,7 +191,8 @@ class Edit:
             goals = [it for it in goals if clause_of_goal(it) in (None, *self.clauses)]
         if not as_it_stands:
             leave_goals(self.crate, room, unit, goals)
-        give_answers(self.crate, room, unit, [(alone if as_it_stands else beside, term) for beside, alone, term in self.answers], self.uses)
+        answers = [(alone if as_it_stands else beside, term) for beside, alone, term in self.answers]
+        give_answers(self.crate, room, unit, [it for it in answers if it[0] != "-"], self.uses)
 
     def in_text(self, text):
         """The text of its function as it changes that, or None where it doesn't all stand there."""
@@ -419,7 +422,7 @@ class Results:
         return hashlib.sha256(repr(made).encode()).hexdigest()
 
     def known(self, edit):
-        if self.asked.anew or self.asked.as_they_stand:
+        if self.asked.anew or self.asked.as_they_stand or self.asked.by_search:
             return None
         try:
             found = json.loads((self.at / self.name(edit)).read_text(encoding="utf-8"))
@@ -428,7 +431,7 @@ class Results:
             return None
 
     def keep(self, edit, kind, text):
-        if kind not in SETTLED or self.asked.as_they_stand:
+        if kind not in SETTLED or self.asked.as_they_stand or self.asked.by_search:
             return
         try:
             self.at.mkdir(parents=True, exist_ok=True)
@@ -469,6 +472,7 @@ def asked_for():
     parser.add_argument("--anew", action="store_true", help="try those too whose result is kept")
     parser.add_argument("--as-they-stand", action="store_true", help="leave the edits out: each function has to be proved")
     parser.add_argument("--beside", type=Path, metavar="FILE", help="go along with an rt ci that runs for as long as FILE is there")
+    parser.add_argument("--by-search", action="store_true", help="leave the edits' own answers out")
     parser.add_argument("--lanes", type=int, help="how many checks go side by side")
     parser.add_argument("--only", help="edits whose names have these letters")
     parser.add_argument("crates", nargs="*", metavar="CRATE")
@@ -523,6 +527,8 @@ def main():
             return 2
     edits = [Edit(crate, file) for crate in crates for file in files_of(crate)]
     edits = [it for it in edits if not asked.only or asked.only in it.name]
+    for edit in edits if asked.by_search else ():
+        edit.answers = []
     results, start = Results(sources, asked), time.monotonic()
     told = {edit: found for edit in edits for found in [results.known(edit)] if found}
     old = len(told)
