@@ -19,22 +19,6 @@ use cat_search::cat_items::{FieldValue, Item};
 use std::alloc::{AllocError, Global};
 use std::cmp::Reverse;
 
-impl LabelCount {
-    /// How many hits have the label, at least 1.
-    pub fn count(&self) -> usize
-        ensures { result ≡ (counted_of self.now).count }
-    {
-        self.count.0
-    }
-
-    /// The label.
-    pub fn label(&self) -> &str
-        ensures { result.now ≡ (counted_of self.now).label }
-    {
-        self.label.as_str()
-    }
-}
-
 /// The labels that the item has in the dimension.
 fn labels_in<'a>(item: &'a Item, dim: &str) -> &'a [Text]
     ensures { result.now ≡ labels_in (content_of dim.now item.now) }

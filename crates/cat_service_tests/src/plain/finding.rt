@@ -24,50 +24,6 @@ use cat_search::{Ask, Key, Sort};
 use std::alloc::{AllocError, Global};
 use std::cmp::Ordering;
 
-impl Page {
-    ghost use Rattle.std.specs.Prelude.{◌≡◌};
-
-    /// How many hits there are, whatever the mark and whatever is shown.
-    pub(crate) fn total(&self) -> usize
-        ensures { result ≡ self.now.total }
-    {
-        self.total
-    }
-
-    /// The hits that are shown, in the order of the sort.
-    pub(crate) fn entries(&self) -> &[Entry]
-        ensures { result.now ≡ self.now.entries }
-    {
-        self.entries.as_slice()
-    }
-}
-
-impl Entry {
-    ghost use Rattle.std.specs.Prelude.{◌≡◌, option_map};
-    ghost use Rattle.cat_search.specs.Keys.{key_of};
-
-    /// The number of the write that put the item.
-    pub(crate) fn number(&self) -> WriteNo
-        ensures { result ≡ self.now.number }
-    {
-        self.number
-    }
-
-    /// The id of the item.
-    pub(crate) fn id(&self) -> &str
-        ensures { result.now ≡ self.now.id }
-    {
-        self.id.as_str()
-    }
-
-    /// What the hit was sorted by.
-    pub(crate) fn key(&self) -> Option<&Key>
-        ensures { option_map (λ k. key_of k.now) result ≡ self.now.key }
-    {
-        self.key.as_ref()
-    }
-}
-
 /// Whether one sorts by fields of the kind.
 fn is_sorted(kind: Option<Kind>) -> bool
     ensures { result ≡ is_sort_kind (option_map field_kind_of kind) }
@@ -138,12 +94,12 @@ fn key_in(value: Option<&FieldValue>) -> Option<KeyRef<'_>>
 }
 
 /// The sort key of the record, if it has one.
-fn key_of<'a>(sort: Sort<'_>, record: &'a Record) -> Option<KeyRef<'a>>
-    ensures { option_map key_ref_of result ≡ key (sort_of sort.entry) record.now }
+fn key_of<'a>(sort: Sort<'_>, hit: &'a Record) -> Option<KeyRef<'a>>
+    ensures { option_map key_ref_of result ≡ key (sort_of sort.entry) hit.now }
 {
     match sort {
         Sort::Added => None,
-        Sort::Rising(field) | Sort::Falling(field) => key_in(record.item().value(field)),
+        Sort::Rising(field) | Sort::Falling(field) => key_in(hit.item().value(field)),
     }
 }
 
@@ -198,10 +154,10 @@ fn compare(sort: Sort<'_>, a: &Record, b: &Record) -> Ordering
 }
 
 /// Whether the record is the one of the mark, and comes before the hit.
-fn is_mark_before(sort: Sort<'_>, mark: WriteNo, record: &Record, hit: &Record) -> bool
-    ensures { result ≡ ((record.now.number == mark) && before (sort_of sort.entry) record.now hit.now) }
+fn is_mark_before(sort: Sort<'_>, mark: WriteNo, marked: &Record, hit: &Record) -> bool
+    ensures { result ≡ ((marked.now.number == mark) && before (sort_of sort.entry) marked.now hit.now) }
 {
-    record.number() == mark && compare(sort, record, hit).is_lt()
+    marked.number() == mark && compare(sort, marked, hit).is_lt()
 }
 
 /// Whether the mark comes before the hit.
