@@ -12,7 +12,7 @@ use cat_service::World;
 use cat_service::cat_protocol::lines::{Command, Line};
 use cat_service::cat_protocol::replies::{Answer as Told, News};
 use cat_service::cat_protocol::serving::Unopened;
-use std::alloc::Global;
+use std::alloc::{AllocError, Global};
 use std::test::Fail;
 
 /// The schema line of both.
@@ -28,12 +28,14 @@ fn plain_reply(
     plain: &mut Plain,
     dice: &mut Dice,
     line: &Line<'_>,
-) -> Result<Vec<u8>, Refusal> {
+) -> Result<Vec<u8>, AllocError> {
     let reply = plain.step(line);
-    if let (Command::Refresh, Ok(Answer::Number(token))) = (line.command, &reply.answer) {
-        dice.take(*token);
+    if let Ok(Answer::Number(token)) = &reply.answer {
+        if let Command::Refresh = line.command {
+            dice.take(*token);
+        }
     }
-    Ok(reply.text(alloc)?)
+    reply.text(alloc)
 }
 
 /// What the service says to a line.
@@ -41,8 +43,8 @@ fn service_reply(
     alloc: Global,
     world: &mut World<MemoryDirectory>,
     line: &Line<'_>,
-) -> Result<Vec<u8>, Refusal> {
-    Ok(world.step(line).text(alloc)?)
+) -> Result<Vec<u8>, AllocError> {
+    world.step(line).text(alloc)
 }
 
 /// Whether both say the same to a line that the dice throw.
@@ -51,7 +53,7 @@ fn is_answered_alike(
     world: &mut World<MemoryDirectory>,
     plain: &mut Plain,
     dice: &mut Dice,
-) -> Result<bool, Refusal> {
+) -> Result<bool, AllocError> {
     let line = dice.line();
     let told = service_reply(alloc, world, &line)?;
     let wanted = plain_reply(alloc, plain, dice, &line)?;
@@ -102,7 +104,7 @@ fn are_alike(
     world: &mut World<MemoryDirectory>,
     plain: &mut Plain,
     dice: &mut Dice,
-) -> Result<bool, Refusal> {
+) -> Result<bool, AllocError> {
     for number in 0..COUNT {
         if !is_answered_alike(alloc, world, plain, dice)? || !is_maintained(world, number) {
             return Ok(false);

@@ -1,7 +1,9 @@
 pub mod Deletes
 pub mod FacetReplies
 pub mod Finds
+pub mod Grown
 pub mod LabelRanks
+pub mod Lookups
 pub mod ModelRuns
 pub mod Openings
 pub mod Pages

@@ -147,8 +147,8 @@ impl Dice {
 
     /// One of these.
     fn pick<T: Copy>(&mut self, from: &[T], where_none: T) -> T {
-        let at = self.throw(from.len() as u64) as usize;
-        from.get(at).copied().unwrap_or(where_none)
+        let place = self.throw(from.len() as u64) as usize;
+        at(from, place, where_none)
     }
 
     /// One of the newest four tokens.
@@ -193,9 +193,9 @@ impl Dice {
         let id = self.throw(IDS.len() as u64) as usize;
         let text = self.throw(TEXTS as u64) as usize;
         match self.throw(8) {
-            0 => Command::Delete(IDS.get(id).copied().unwrap_or("")),
+            0 => Command::Delete(at(IDS, id, "")),
             1 => Command::DeleteWhere(self.pick(DELETED, "")),
-            _ => Command::Put(item(id, text)),
+            _ => Command::Put(at(at(ITEMS, id, &[]), text, "")),
         }
     }
 
@@ -231,10 +231,7 @@ impl Dice {
     }
 }
 
-/// So manyth text of the item of so manyth id.
-fn item(id: usize, text: usize) -> &'static str {
-    match ITEMS.get(id) {
-        Some(texts) => texts.get(text).copied().unwrap_or(""),
-        None => "",
-    }
+/// The one at this place.
+fn at<T: Copy>(from: &[T], place: usize, where_none: T) -> T {
+    from.get(place).copied().unwrap_or(where_none)
 }

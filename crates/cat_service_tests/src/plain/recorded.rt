@@ -67,7 +67,12 @@ pub(crate) fn is_recorded(views: &[RecordedTable], token: Token) -> bool
 pub(crate) fn recorded_under(views: &[RecordedTable], token: Token) -> Option<&RecordedTable>
     ensures { option_map (λ v. v.now) result ≡ find (λ v. v.token == token) views.now }
 {
-    views.iter().find(|view| view.token() == token)
+    for view in views {
+        if view.token() == token {
+            return Some(view);
+        }
+    }
+    None
 }
 
 /// The greatest token, or 0 where there is no view.

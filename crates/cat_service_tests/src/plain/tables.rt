@@ -29,7 +29,12 @@ pub(crate) fn remove_hits(records: &mut Vec<Record>, query: &Query)
 fn record_of<'a>(records: &'a [Record], id: &str) -> Option<&'a Record>
     ensures { option_map (λ r. r.now) result ≡ find (λ r. same_text r.item.id id.now) records.now }
 {
-    records.iter().find(|record| record.item().id() == id)
+    for record in records {
+        if record.item().id() == id {
+            return Some(record);
+        }
+    }
+    None
 }
 
 /// The text that the item of the id was read from, if there is one.

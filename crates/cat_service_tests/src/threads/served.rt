@@ -40,9 +40,10 @@ pub(crate) struct Trial {
 fn begin<D: Directory + Shelf + Drop>(
     alloc: Global,
     device: D,
-    schema: Schema,
+    schema: &Schema,
     trial: Trial,
 ) -> Result<Begun<D>, Refusal> {
+    let schema = schema.copy()?;
     let Some(policy) = MergePolicy::of(trial.factor, trial.least) else {
         return Err(Refusal::Line);
     };
@@ -69,21 +70,18 @@ fn both<J: Naming, C: Drop>(
     Ok(jobs)
 }
 
-/// Both tell each other what they have seen.
+/// Has both tell each other what they have seen. Answers whether there are two.
 fn meet<J: Naming, D: Directory + Shelf, R: Wait>(
     rt: &R,
     service: &Service<D, J>,
-    passes: Vec<Pass<J>>,
-) -> Option<Vec<Pass<J>>> {
-    let mut passes = passes;
-    let (Some(mut two), Some(mut one)) = (passes.pop(), passes.pop()) else {
-        return None;
-    };
-    service.meet(rt, &mut one, &mut two);
-    let (Ok(()), Ok(())) = (passes.push(one), passes.push(two)) else {
-        return None;
-    };
-    Some(passes)
+    passes: &mut [Pass<J>],
+) -> bool {
+    if passes.len() != 2 {
+        return false;
+    }
+    let (first, second) = passes.split_at_mut(1);
+    service.meet(rt, &mut first[0], &mut second[0]);
+    true
 }
 
 /// Runs both with the workers beside them, and then they tell each other what they have seen.
@@ -105,7 +103,13 @@ fn side_by_side<
     };
     let (merging, warming) = workers;
     match run_threads(rt, alloc, service, jobs, merging, warming) {
-        Ok(passes) => meet(rt, service, passes),
+        Ok(mut passes) => {
+            if meet(rt, service, passes.as_mut_slice()) {
+                Some(passes)
+            } else {
+                None
+            }
+        }
         Err(_) => None,
     }
 }
@@ -183,6 +187,39 @@ fn workers_of<'a, R>(
     (merging, warming)
 }
 
+/// How many writes are accepted over the directory, if both sessions come to their ends.
+fn counted<
+    D: Directory + Shelf + Drop + Send,
+    S: Shelf + Drop + Send,
+    R: Threads + Wait + Clock + Sync,
+>(
+    rt: &R,
+    alloc: Global,
+    schema: &Schema,
+    board: &Board,
+    device: D,
+    shelves: (Option<S>, Option<S>),
+    trial: Trial,
+) -> Result<Option<WriteNo>, Refusal> {
+    let begun = begin(alloc, device, schema, trial)?;
+    let (one, two) = shelves;
+    let first = session_of(alloc, schema, board, one, trial.each);
+    let callers = (first, session_of(alloc, schema, board, two, trial.each));
+    let workers = workers_of(rt, board, trial.is_at_once);
+    Ok(run_two::<Brand, _, _, _>(rt, alloc, begun, [1, 2], callers, workers))
+}
+
+/// The name of what isn't as the trial has it, if anything is.
+fn fault_in(trial: Trial, count: Option<WriteNo>, board: &Board) -> Option<&'static str> {
+    if count != Some(trial.accepted) {
+        Some("the writes that are accepted")
+    } else if board.right.load(Ordering::SeqCst) != trial.right {
+        Some("what goes as it should")
+    } else {
+        None
+    }
+}
+
 /// The name of what isn't as it should be, if anything is: both sessions come to their ends over the directory, all of their writes
 /// are accepted, and all that goes as it should is counted.
 pub(crate) fn failing<
@@ -198,17 +235,6 @@ pub(crate) fn failing<
 ) -> Result<Option<&'static str>, Refusal> {
     let schema = Schema::read(alloc, FIELDS)?;
     let board = Board::new();
-    let begun = begin(alloc, device, schema.copy()?, trial)?;
-    let (one, two) = shelves;
-    let first = session_of(alloc, &schema, &board, one, trial.each);
-    let callers = (first, session_of(alloc, &schema, &board, two, trial.each));
-    let workers = workers_of(rt, &board, trial.is_at_once);
-    let count = run_two::<Brand, _, _, _>(rt, alloc, begun, [1, 2], callers, workers);
-    if count != Some(trial.accepted) {
-        return Ok(Some("the writes that are accepted"));
-    }
-    if board.right.load(Ordering::SeqCst) != trial.right {
-        return Ok(Some("what goes as it should"));
-    }
-    Ok(None)
+    let count = counted(rt, alloc, &schema, &board, device, shelves, trial)?;
+    Ok(fault_in(trial, count, &board))
 }
