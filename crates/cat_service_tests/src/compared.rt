@@ -38,15 +38,6 @@ fn plain_reply(
     reply.text(alloc)
 }
 
-/// What the service says to a line.
-fn service_reply(
-    alloc: Global,
-    world: &mut World<MemoryDirectory>,
-    line: &Line<'_>,
-) -> Result<Vec<u8>, AllocError> {
-    world.step(line).text(alloc)
-}
-
 /// Whether both say the same to a line that the dice throw.
 fn is_answered_alike(
     alloc: Global,
@@ -55,7 +46,7 @@ fn is_answered_alike(
     dice: &mut Dice,
 ) -> Result<bool, AllocError> {
     let line = dice.line();
-    let told = service_reply(alloc, world, &line)?;
+    let told = world.step(&line).text(alloc)?;
     let wanted = plain_reply(alloc, plain, dice, &line)?;
     Ok(told == wanted)
 }

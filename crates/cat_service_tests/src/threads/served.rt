@@ -64,7 +64,7 @@ fn both<J: Naming, C: Drop>(
         return Err(AllocError);
     };
     let (one, two) = callers;
-    let mut jobs = Vec::with_capacity(alloc, 2)?;
+    let mut jobs = Vec::new(alloc);
     jobs.push((first, one))?;
     jobs.push((second, two))?;
     Ok(jobs)
@@ -114,15 +114,6 @@ fn side_by_side<
     }
 }
 
-/// How many writes were accepted at the end.
-fn count_of<J: Naming, D: Directory + Shelf + Drop, R: Wait>(
-    rt: &R,
-    service: Service<D, J>,
-    passes: Vec<Pass<J>>,
-) -> WriteNo {
-    service.finish(rt, passes).count()
-}
-
 /// Lets the two sessions work, with a merger and a warmer beside them. How many writes were accepted, if both came to their ends.
 fn run_two<
     J: Naming + Send + Sync,
@@ -144,7 +135,7 @@ fn run_two<
         return None;
     };
     let passes = side_by_side(rt, alloc, &service, passes, callers, workers)?;
-    Some(count_of(rt, service, passes))
+    Some(service.finish(rt, passes).count())
 }
 
 /// What each of the two sessions does.
