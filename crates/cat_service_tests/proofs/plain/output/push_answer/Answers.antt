@@ -1,4 +1,4 @@
-use Rattle.std.proofs.Common.{◌≡◌, ◌∙◌, ap, length, arith}
+use Rattle.std.proofs.Common.{◌∙◌, ap, length, arith}
 use Rattle.std.proofs.lemmas.Result.{on_ok_weaker}
 use Rattle.cat_service_tests.proofs.plain.catalogue.Written.{page_behind, counts_behind}
 use Rattle.cat_service_tests.proofs.plain.output.push_answer.Goals as goal
