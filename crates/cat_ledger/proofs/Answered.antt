@@ -18,9 +18,10 @@ use Rattle.cat_ledger_laws.specs.model.Calls.{Unsnapped}
 use Rattle.cat_ledger_laws.specs.model.Plans.{MergePolicy}
 use Rattle.cat_ledger_laws.specs.model.Replies.{IsLeft}
 use Rattle.cat_ledger_laws.specs.shape.Shapes.{Shape}
-use Rattle.cat_ledger_laws.specs.shape.Steps.{newest_generation}
-use Rattle.cat_ledger_laws.specs.shape.Ties.{Makes, ToldFiles}
-use Rattle.cat_ledger_laws.proofs.lines.LineAnswers.{commits_answer, memory_answers, stopped_refreshes_answer, unsnaps_answer}
+use Rattle.cat_ledger_laws.specs.shape.Steps.{IsSnapped, newest_generation}
+use Rattle.cat_ledger_laws.specs.shape.Ties.{Makes, ToldFiles, TouchesNothing}
+use Rattle.cat_ledger_laws.proofs.shape.Committed.{snaps_make}
+use Rattle.cat_ledger_laws.proofs.lines.LineAnswers.{commits_answer, memory_answers, snaps_answer, stopped_refreshes_answer, unsnaps_answer}
 use Rattle.cat_ledger_laws.proofs.lines.RefusalAnswers.{commitless_snaps_answer, faults_answer, snapless_unsnaps_answer, spent_snaps_answer}
 use Rattle.cat_ledger_laws.proofs.lines.StopAnswers.{nothing_is_left, stopped_commits_answer}
 use Rattle.cat_ledger.specs.Answering.{number_reply}
@@ -90,6 +91,15 @@ module _ (policy : MergePolicy) (told told' : ToldFiles) (s new : Shape) (sessio
   snap_refused e none spent still (inr (inl is)) = named Command.snapshot e Spent is
       (let at = spent is in spent_snaps_answer policy told told' s new session at.0 at.1 (omega (arith, at.2)) still)
   snap_refused e none spent still (inr (inr is)) = named Command.snapshot e Memory is (memory_refused Command.snapshot refl still)
+
+  -- one that was begun, whatever became of it
+  pub snap_begun : (r : Result ℕ Refusal) → TouchesNothing told told' → IfOk r (λ g. IsSnapped g s new) → IfOk r (λ g. snapshots_in s.taken g < snapshot_limit)
+      → IfErr r (λ e. e ≡ NoCommit → newest_generation s.commits ≡ None)
+      → IfErr r (λ e. e ≡ Spent → (g : ℕ) × (newest_generation s.commits ≡ Some g) × (snapshots_in s.taken g ≡ snapshot_limit))
+      → IfErr r (λ e. (e ≡ NoCommit) ⊎ (e ≡ Spent) ⊎ (e ≡ Memory)) → OnErr r (new ≡ s)
+      → AnswersCarried policy told s (line_of session Command.snapshot) (number_reply r) told' new
+  snap_begun (Ok g) same snapped room none spent why err = snaps_answer policy told told' s new session g room (snaps_make g s new told told' snapped same)
+  snap_begun (Err e) same snapped room none spent why err = snap_refused e none spent (err, same) why
 
   -- an UNSNAP, by what is left behind it
   pub unsnap_begun : (g left : ℕ) → 0 < snapshots_in s.taken g → left ≡ snapshots_in s.taken g - cond (g == g) 1 0 → Makes (Unsnapped g) told s told' new

@@ -123,8 +123,7 @@ impl<D: Directory + Shelf> Ledger<D> {
         ensures same { device_in self.new ≡ device_in self.old }
         ensures goes { GoesOn D.bytes D.may_leave self.old self.new }
     {
-        let generation = self.core.snapshot()?;
-        Ok(generation)
+        self.core.snapshot()
     }
 
     /// Gives a snapshot of the commit back, and answers how many it has left. Where that was the last one, and another commit is the

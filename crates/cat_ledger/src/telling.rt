@@ -17,7 +17,7 @@ use cat_ledger_state::Leaf;
 use std::alloc::{AllocError, Global};
 
 /// A segment that stands, as [`Ledger::stat`] tells of it.
-#[derive(Clone, Copy, Debug, PartialEq, Eq)]
+#[derive(Clone, Copy)]
 pub struct SegmentStat {
     /// Its number.
     pub number: SegNo,
@@ -28,7 +28,7 @@ pub struct SegmentStat {
 }
 
 /// What a ledger tells of itself.
-#[derive(Debug, Drop)]
+#[derive(Drop)]
 pub struct Stat {
     /// How many writes were accepted.
     pub writes: WriteNo,

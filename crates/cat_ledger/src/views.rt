@@ -47,7 +47,7 @@ pub enum Grant {
 }
 
 /// A right that was given back.
-#[derive(Clone, Copy, Debug, PartialEq, Eq)]
+#[derive(Clone, Copy)]
 pub struct Released {
     session: SessionNo,
     token: Token,
@@ -87,10 +87,7 @@ fn record_where_none(core: &mut Core) -> Result<(), AllocError>
     if core.is_recorded(core.count()) {
         return Ok(());
     }
-    if let Err(refused) = core.record_view() {
-        return Err(refused);
-    }
-    Ok(())
+    core.record_view()
 }
 
 /// Flushes what waits, and then records a view of now.
@@ -125,8 +122,7 @@ fn copy_view(core: &Core, token: Token) -> Result<View, AllocError>
     let Some(view) = core.view_at(token) else {
         unreachable!();
     };
-    let copy = view.copy()?;
-    Ok(copy)
+    view.copy()
 }
 
 /// Gives the session the right to the view that is recorded under the token, which it doesn't hold. An error changes nothing.
@@ -141,6 +137,33 @@ fn grant_right(core: &mut Core, session: SessionNo, token: Token) -> Result<Hold
     let view = copy_view(core, token)?;
     core.hold(session, token)?;
     Ok(Hold::of(session, view))
+}
+
+/// The token that is asked for, the newest one where none is named; none where no view is recorded under it.
+fn token_asked(core: &Core, token: Option<Token>) -> Option<Token>
+    ensures some { IfSome result (IsAsked core.now token) }
+    ensures there { IfSome result (λ t. list_any (λ v. v.token == t) core.now.views ≡ true) }
+    ensures none { IfNone result ((t : ℕ) → IsAsked core.now token t → ⊥) }
+{
+    let token = token.unwrap_or(core.newest_token());
+    if !core.is_recorded(token) {
+        return None;
+    }
+    Some(token)
+}
+
+/// Lets the session hold the view that is recorded under the token. It takes memory only where the session doesn't hold it yet,
+/// and an error changes nothing.
+fn hold_recorded(core: &mut Core, session: SessionNo, token: Token) -> Result<(), AllocError>
+    requires { list_any (λ v. v.token == token) core.old.views ≡ true }
+    ensures held { OnOk result (core.new ≡ holding session token core.old) }
+    ensures due { OnErr result (has_hold core.old.holds session token ≡ false) }
+    ensures err { OnErr result (core.new ≡ core.old) }
+{
+    if core.is_held_by(session, token) {
+        return Ok(());
+    }
+    core.hold(session, token)
 }
 
 impl<D: Directory + Shelf> Ledger<D> {
@@ -194,10 +217,9 @@ impl<D: Directory + Shelf> Ledger<D> {
         ensures refusal { IfErr result (λ e. (e ≡ Gone) ⊎ (e ≡ Memory)) }
         ensures goes { GoesOn D.bytes D.may_leave self.old self.new }
     {
-        let token = token.unwrap_or(self.core.newest_token());
-        if !self.core.is_recorded(token) {
+        let Some(token) = token_asked(&self.core, token) else {
             return Err(Refusal::Gone);
-        }
+        };
         if self.core.is_held_by(session, token) {
             return Ok(Grant::Already(token));
         }
@@ -249,15 +271,12 @@ impl<D: Directory + Shelf> Ledger<D> {
         ensures refusal { IfErr result (λ e. (e ≡ Gone) ⊎ (e ≡ Memory)) }
         ensures goes { GoesOn D.bytes D.may_leave self.old self.new }
     {
-        let token = token.unwrap_or(self.core.newest_token());
-        if !self.core.is_recorded(token) {
+        let Some(token) = token_asked(&self.core, token) else {
             return Err(Refusal::Gone);
-        }
-        if self.core.is_held_by(session, token) {
-            return Ok(token);
-        }
-        if let Err(AllocError) = self.core.hold(session, token) {
-            return Err(Refusal::Memory);
+        };
+        match hold_recorded(&mut self.core, session, token) {
+            Ok(()) => {}
+            Err(AllocError) => return Err(Refusal::Memory),
         }
         Ok(token)
     }

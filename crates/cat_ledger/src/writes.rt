@@ -21,8 +21,26 @@ use crate::room::make_room;
 use cat_base::{LAST_NUMBER, Refusal, WriteNo};
 use cat_directory::{Directory, Shelf};
 use cat_items::Item;
-use cat_ledger_state::Query;
+use cat_ledger_state::{Core, Query};
 use std::alloc::AllocError;
+
+/// Whether the item is of the schema, which comes first, and a number is left for a write.
+fn judge_item(core: &Core, item: &Item) -> Result<(), Refusal>
+    ensures item { OnOk result (IsItem core.now.schema item.now) }
+    ensures left { OnOk result (core.now.count < last_number) }
+    ensures kind { IfErr result (λ e. e ≡ Kind → IsItem core.now.schema item.now → ⊥) }
+    ensures fitting { IfErr result (λ e. e ≢ Kind → IsItem core.now.schema item.now) }
+    ensures spent { IfErr result (λ e. e ≡ Spent → last_number ≤ core.now.count) }
+    ensures refusal { IfErr result (λ e. (e ≡ Kind) ⊎ (e ≡ Spent)) }
+{
+    if !core.schema().accepts(item) {
+        return Err(Refusal::Kind);
+    }
+    if core.count() >= LAST_NUMBER {
+        return Err(Refusal::Spent);
+    }
+    Ok(())
+}
 
 impl<D: Directory + Shelf> Ledger<D> {
     /// Puts the item in the place of the one of its id, if there is one, and answers the number of this write. Where 1,024 items
@@ -54,11 +72,8 @@ impl<D: Directory + Shelf> Ledger<D> {
         ensures fails { CountsFailures D.can_fail D.fault_count (device_in self.old) (device_in self.new) result }
         ensures goes { GoesOn D.bytes D.may_leave self.old self.new }
     {
-        if !self.core.schema().accepts(&item) {
-            return Err(Refusal::Kind);
-        }
-        if self.core.count() >= LAST_NUMBER {
-            return Err(Refusal::Spent);
+        if let Err(refusal) = judge_item(&self.core, &item) {
+            return Err(refusal);
         }
         if let Err(refusal) = make_room(&mut self.core, &mut self.device) {
             return Err(refusal);

@@ -1,7 +1,7 @@
 //! What a step of a merge tells.
 
 /// What a step of maintenance did with merges.
-#[derive(Clone, Copy, Debug, PartialEq, Eq)]
+#[derive(Clone, Copy)]
 pub enum MergeNews {
     /// There was nothing to do.
     Idle,

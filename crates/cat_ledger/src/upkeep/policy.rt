@@ -9,7 +9,7 @@ use std::marker::Model;
 
 /// When segments are merged: how many at once, and how many rows a segment of the lowest level has at most. (Lucene:
 /// `LogDocMergePolicy` with its `mergeFactor` and `minMergeDocs`.)
-#[derive(Clone, Copy, Debug, PartialEq, Eq)]
+#[derive(Clone, Copy)]
 pub struct MergePolicy {
     factor: u64,
     least: u64,

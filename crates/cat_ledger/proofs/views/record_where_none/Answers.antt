@@ -1,5 +1,6 @@
 use Rattle.std.proofs.Common.{false, refl, true}
 use Rattle.cat_ledger.proofs.Made.{recorded_at}
+use Rattle.cat_ledger.proofs.Results.{on_ok}
 use Rattle.cat_ledger_laws.proofs.lines.JoinedCalls.{views_stand}
 use Rattle.cat_ledger_laws.proofs.shape.Views.{records_make}
 use Rattle.cat_ledger.proofs.views.record_where_none.Goals as goal
@@ -11,5 +12,5 @@ returns-then-is_recorded-clause-ok c =
 
 pub returns-clause-ok : goal.returns-clause-ok
 returns-clause-ok c =
-    λ told. records_make c.args.core.now c.record_view.new.self told told c.requires.flushed
-    (recorded_at c.args.core.now c.count.result false c.count.ensures.count c.if-is_recorded.ensures) c.in_default.ensures.ok (λ q. refl)
+    on_ok c.record_view.result (λ ok told. records_make c.args.core.now c.record_view.new.self told told c.requires.flushed
+    (recorded_at c.args.core.now c.count.result false c.count.ensures.count c.if-is_recorded.ensures) ok (λ q. refl)) c.record_view.ensures.ok

@@ -1,6 +1,5 @@
-use Rattle.std.proofs.Common.{◌∙◌, subst, sym, ap}
+use Rattle.std.proofs.Common.{subst, sym, ap}
 use Rattle.cat_ledger.proofs.Lasting.{held_carried, kept_still, same_needs}
-use Rattle.cat_ledger.proofs.Made.{asked_is, asked_nowhere}
 use Rattle.cat_ledger.specs.Grants.{IsAsked}
 use Rattle.cat_ledger.proofs.Histories.{goes_so, memory_goes, nothing_goes_on}
 use Rattle.cat_ledger_laws.specs.shape.Shapes.{Shape}
@@ -9,40 +8,29 @@ use Rattle.cat_ledger.proofs.ledger.Ledger.acquire.Goals as goal
 
 pub invariant_of-self-2 : goal.invariant_of-self-2
 invariant_of-self-2 g c =
-    let t = c.unwrap_or-token.result in
+    let t = c.in-Some.token in
     let s = c.self.inside.core in
     let s' = c.grant_right.new.core in
     kept_still g.D.Holder.bytes g.D.Holder.may_leave g.met.D.Holder.may_stay c.self.inside.device c.self.inside.device s s'
-    (held_carried c.self.inside.policy (g.D.Holder.bytes c.self.inside.device) s s' c.args.session t (sym c.if-not-is_recorded.ensures)
+    (held_carried c.self.inside.policy (g.D.Holder.bytes c.self.inside.device) s s' c.args.session t c.in-Some.ensures.there
     c.in-Ok.ensures.ok c.self.invariant.carried)
     (same_needs _ _ c.in-Ok.ensures.ok) (λ q needed e might. might) c.self.invariant
 
 pub returns-then-is_held_by-clause-asked : goal.returns-then-is_held_by-clause-asked
-returns-then-is_held_by-clause-asked g c =
-    rw (← c.self.view_is) (asked_is c.self.inside.core c.args.token c.newest_token.result c.unwrap_or-token.result c.unwrap_or-token.ensures
-    c.newest_token.ensures.greatest (sym c.if-not-is_recorded.ensures))
+returns-then-is_held_by-clause-asked g c = rw (← c.self.view_is) c.in-Some.ensures.some
 
 pub returns-clause-asked : goal.returns-clause-asked
 returns-clause-asked g c =
-    rw (← c.self.view_is) (subst (λ t. IsAsked c.self.inside.core c.args.token t) (sym c.in-Ok.ensures.token)
-    (asked_is c.self.inside.core c.args.token c.newest_token.result c.unwrap_or-token.result c.unwrap_or-token.ensures
-    c.newest_token.ensures.greatest (sym c.if-not-is_recorded.ensures)))
+    rw (← c.self.view_is) (subst (λ t. IsAsked c.self.inside.core c.args.token t) (sym c.in-Ok.ensures.token) c.in-Some.ensures.some)
 
 pub returns-in-Err-clause-due : goal.returns-in-Err-clause-due
-returns-in-Err-clause-due g c = rw (← c.self.view_is) (λ _. (
-  c.unwrap_or-token.result,
-  asked_is c.self.inside.core c.args.token c.newest_token.result c.unwrap_or-token.result c.unwrap_or-token.ensures
-      c.newest_token.ensures.greatest (sym c.if-not-is_recorded.ensures),
-  sym c.if-is_held_by.ensures,
-))
+returns-in-Err-clause-due g c = rw (← c.self.view_is) (λ _. (c.in-Some.token, c.in-Some.ensures.some, sym c.if-is_held_by.ensures))
 
-pub returns-then-not-is_recorded-clause-gone : goal.returns-then-not-is_recorded-clause-gone
-returns-then-not-is_recorded-clause-gone g c =
-    rw (← c.self.view_is) (λ _ t asked. asked_nowhere c.self.inside.core c.args.token c.newest_token.result c.unwrap_or-token.result t
-    c.unwrap_or-token.ensures c.newest_token.ensures.there (sym c.is_recorded.ensures ∙ c.if-not-is_recorded.true) asked)
+pub returns-in_default-clause-gone : goal.returns-in_default-clause-gone
+returns-in_default-clause-gone g c = rw (← c.self.view_is) (λ _. c.in_default.ensures.none)
 
-pub returns-then-not-is_recorded-clause-goes : goal.returns-then-not-is_recorded-clause-goes
-returns-then-not-is_recorded-clause-goes g c =
+pub returns-in_default-clause-goes : goal.returns-in_default-clause-goes
+returns-in_default-clause-goes g c =
     nothing_goes_on g.D.Holder.bytes g.D.Holder.may_leave c.args.self.now
 
 pub returns-then-is_held_by-clause-goes : goal.returns-then-is_held_by-clause-goes

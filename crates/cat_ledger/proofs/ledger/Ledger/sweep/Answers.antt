@@ -41,9 +41,6 @@ returns-clause-none g c = if_ok _ _ c.sweep.result (λ n left. left.1) c.sweep.e
 pub returns-clause-count : goal.returns-clause-count
 returns-clause-count g c = rw (← c.self.view_is) (if_ok _ _ c.sweep.result (λ n left. left.0) c.sweep.ensures.ok)
 
-pub returns-clause-done : goal.returns-clause-done
-returns-clause-done g c = c.sweep.ensures.done
-
 pub returns-clause-memory : goal.returns-clause-memory
 returns-clause-memory g c = rw (← c.self.view_is) c.sweep.ensures.memory
 
