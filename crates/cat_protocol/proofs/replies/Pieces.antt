@@ -1,7 +1,6 @@
 -- Lines of replies in pieces.
-use Rattle.std.proofs.Common.{◌≡◌, ℕ, ◌+◌, List, [], ◌∷◌, ◌++◌, ◌<◌, codes, length, take, drop, get_or, sym, ap, ◌∙◌, subst, append_assoc, append-nil}
-use Rattle.std.specs.Prelude.{Option, Result, map}
-use Rattle.std.specs.Result.{IsErr}
+use Rattle.std.proofs.Common.{◌≡◌, ℕ, ◌+◌, List, [], ◌∷◌, ◌++◌, ◌<◌, codes, length, take, drop, get_or, sym, ap, ◌∙◌, append_assoc, append-nil}
+use Rattle.std.specs.Prelude.{Option, map}
 use Rattle.std.specs.List.{flat_map}
 use Rattle.std.specs.Fmt.{decimal}
 use Rattle.std.specs.Io.KnownBytes.{Appends}
@@ -12,8 +11,8 @@ use Rattle.cat_model.specs.Facets.{Counted}
 use Rattle.cat_model.specs.Served.{AppendsFront}
 use Rattle.cat_directory.specs.Names.{file_text}
 use Rattle.cat_directory.specs.declared.name.FileName.{FileName}
-use Rattle.cat_protocol.specs.sending.Out.{Gathers, PassesOn}
-use Rattle.cat_protocol.proofs.sending.Written.{front_before, front_behind, flat_map_more, flat_map_split, gathered_at_fault, gathered_before, gathered_behind, gathered_front, both_taken}
+use Rattle.cat_protocol.specs.sending.Out.{PassesOn}
+use Rattle.cat_protocol.proofs.sending.Written.{front_before, front_behind, flat_map_more, flat_map_split, gathered_before, gathered_front, both_taken}
 use Rattle.cat_protocol.specs.replies.Reply.{segment_stat_of}
 use Rattle.cat_protocol.specs.declared.replies.news.SegmentStat.{SegmentStat}
 use Rattle.cat_protocol.specs.replies.Words.{word_text, behind_space}
@@ -29,33 +28,6 @@ pub line_in_pieces : (session : ℕ) (words : List Word)
     → line_text (decimal session ∷ map word_text words) ≡ decimal session ++ (flat_map behind_space words ++ codes "\n")
 line_in_pieces session words =
     ap (λ l. l ++ codes "\n") (spaced_words (decimal session) words) ∙ append_assoc (decimal session) (flat_map behind_space words) (codes "\n")
-
--- The line was taken in, by its number, its words and its end, the first and the last told by equations: so another number is told from the
--- session by that equation, before any text is computed.
-pub line_taken : {T E : Type 0} (session : ℕ) (words : List Word) (a b c d : Option Text) (waited first second waits : Text) (r : Result T E) (number : ℕ) (behind : Text)
-    → PassesOn a b waited first (decimal number) → PassesOn b c first second (flat_map behind_space words) → Gathers c d second waits r behind
-    → number ≡ session → behind ≡ codes "\n" → Gathers a d waited waits r (line_text (decimal session ∷ map word_text words))
-line_taken session words a b c d waited first second waits r number behind one two three n e =
-    rw (line_in_pieces session words)
-    (gathered_behind a b d waited first waits r (decimal session) (flat_map behind_space words ++ codes "\n") (subst (λ k. PassesOn a b waited first (decimal k)) n one)
-    (gathered_behind b c d first second waits r (flat_map behind_space words) (codes "\n") two (subst (λ t. Gathers c d second waits r t) e three)))
-
--- a front of its number went out, or of its words
-pub line_cut : {T E : Type 0} (session : ℕ) (words : List Word) (a b : Option Text) (waited waits : Text) (r : Result T E) (number : ℕ)
-    → AppendsFront a b (waited ++ decimal number) → IsErr r → number ≡ session → Gathers a b waited waits r (line_text (decimal session ∷ map word_text words))
-line_cut session words a b waited waits r number part fails n =
-    rw (line_in_pieces session words)
-    (gathered_at_fault waited waits (decimal session ++ (flat_map behind_space words ++ codes "\n")) r fails
-    (gathered_before waited (decimal session) (flat_map behind_space words ++ codes "\n") (subst (λ k. AppendsFront a b (waited ++ decimal k)) n part)))
-
-pub line_cut_behind : {T E : Type 0} (session : ℕ) (words : List Word) (a b c : Option Text) (waited first waits : Text) (r : Result T E) (number : ℕ)
-    → PassesOn a b waited first (decimal number) → AppendsFront b c (first ++ flat_map behind_space words) → IsErr r → number ≡ session
-    → Gathers a c waited waits r (line_text (decimal session ∷ map word_text words))
-line_cut_behind session words a b c waited first waits r number one part fails n =
-    rw (line_in_pieces session words)
-    (gathered_at_fault waited waits (decimal session ++ (flat_map behind_space words ++ codes "\n")) r fails
-    (gathered_front a b c waited first (decimal session) (flat_map behind_space words ++ codes "\n") (subst (λ k. PassesOn a b waited first (decimal k)) n one)
-    (gathered_before first (flat_map behind_space words) (codes "\n") part)))
 
 -- ---- lists
 
@@ -96,13 +68,10 @@ key_on key = (32 ∷ key) ++ codes "\n"
 abbrev pub id_on : Text → Text → Text
 id_on id key = (32 ∷ id) ++ key_on key
 
-abbrev pub number_on : ℕ → Text → Text → Text
-number_on number id key = (32 ∷ decimal number) ++ id_on id key
-
 pub entry_in_pieces : (session : Text) (entry : Entry) (number : ℕ) (id key : Text) → number ≡ entry.number → id ≡ entry.id → key ≡ key_text entry.key
-    → entry_line session entry ≡ session ++ number_on number id key
+    → entry_line session entry ≡ (session ++ 32 ∷ decimal number) ++ id_on id key
 entry_in_pieces session entry number id key n i k = rw (n, i, k) (simp append_assoc)
 
 pub counted_in_pieces : (session : Text) (counted : Counted) (count : ℕ) (label : Text) → count ≡ counted.count → label ≡ counted.label
-    → counted_line session counted ≡ session ++ ((32 ∷ decimal count) ++ key_on label)
+    → counted_line session counted ≡ (session ++ 32 ∷ decimal count) ++ key_on label
 counted_in_pieces session counted count label c l = rw (c, l) (simp append_assoc)

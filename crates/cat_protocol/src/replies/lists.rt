@@ -1,5 +1,5 @@
 //! Answers of several lines: pages, counts and names.
-ghost use Rattle.std.specs.Prelude.{◌≡◌, ◌∷◌, [], map, option_map, Ok};
+ghost use Rattle.std.specs.Prelude.{◌≡◌, ◌∷◌, [], codes, length, map, option_map, Ok};
 ghost use Rattle.std.specs.Fmt.{decimal};
 ghost use Rattle.std.specs.List.{flat_map};
 ghost use Rattle.cat_model.specs.Answer.{Found};
@@ -10,7 +10,7 @@ ghost use Rattle.cat_facets.specs.cat_search.Keys.{key_of};
 ghost use Rattle.cat_protocol.specs.sending.Out.{Gathers, Sent};
 ghost use Rattle.cat_protocol.specs.replies.Words.{word_text};
 
-use crate::replies::words::{Word, put_behind_space, put_line, put_number_behind_space, send_line};
+use crate::replies::words::{Word, put_behind_space, put_first, put_last, put_line, send_line};
 use crate::sending::{Gathered, WriteFault};
 use cat_base::SessionNo;
 use cat_directory::FileName;
@@ -18,6 +18,15 @@ use cat_facets::cat_search::{Entry, Key, Page};
 use cat_facets::{FacetCount, Facets};
 use itoa::Buffer;
 use std::io::Write;
+
+/// What stands behind the session in the first line of a page.
+fn page_words(page: &Page) -> [Word<'static>; 3]
+    ensures { map word_text result ≡ codes "OK" ∷ decimal (length page.now.entries) ∷ decimal page.now.total ∷ [] }
+{
+    let shown = Word::Number(page.entries().len() as u64);
+    let total = Word::Number(page.total() as u64);
+    [Word::Plain(b"OK"), shown, total]
+}
 
 /// Answers a page: how many hits are shown and how many there are, and a line for each that is shown.
 pub(crate) fn send_page<W: Write>(
@@ -28,13 +37,9 @@ pub(crate) fn send_page<W: Write>(
     ensures { Sent (W.contents to.old) (W.contents to.new) result
         (reply_text session (Ok (run.Answer.found (Found.page page.now)))) }
 {
-    let entries = page.entries();
-    let shown = Word::Number(entries.len() as u64);
-    let total = Word::Number(page.total() as u64);
-    let words = [Word::Plain(b"OK"), shown, total];
     let mut lines = Gathered::new();
-    put_line(&mut lines, session, &words, to)?;
-    put_entries(&mut lines, session, entries, to)?;
+    put_line(&mut lines, session, &page_words(page), to)?;
+    put_entries(&mut lines, session, page.entries(), to)?;
     lines.finish(to)
 }
 
@@ -69,11 +74,9 @@ fn put_entry<W: Write>(
     ensures { Gathers (W.contents to.old) (W.contents to.new) lines.old lines.new result
         (line_text (session.now ∷ entry_words entry.now)) }
 {
-    lines.put(session, to)?;
-    put_number_behind_space(lines, entry.number(), digits, to)?;
+    put_first(lines, session, entry.number(), digits, to)?;
     put_behind_space(lines, Word::Plain(entry.id().as_bytes()), to)?;
-    put_behind_space(lines, key_word(entry.key()), to)?;
-    lines.put(b"\n", to)
+    put_last(lines, key_word(entry.key()), to)
 }
 
 /// What a hit was sorted by: a number in decimal, a keyword behind `=`, and a dot where there is neither.
@@ -137,10 +140,8 @@ fn put_label<W: Write>(
     ensures { Gathers (W.contents to.old) (W.contents to.new) lines.old lines.new result
         (line_text (session.now ∷ counted_words counted.now)) }
 {
-    lines.put(session, to)?;
-    put_number_behind_space(lines, counted.count() as u64, digits, to)?;
-    put_behind_space(lines, Word::Plain(counted.label().as_bytes()), to)?;
-    lines.put(b"\n", to)
+    put_first(lines, session, counted.count() as u64, digits, to)?;
+    put_last(lines, Word::Plain(counted.label().as_bytes()), to)
 }
 
 /// Answers names of files: how many, and a line for each.

@@ -1,11 +1,12 @@
 //! Answers of maintenance.
-ghost use Rattle.std.specs.Prelude.{◌∷◌, [], codes, Ok};
+ghost use Rattle.std.specs.Prelude.{◌≡◌, ◌∷◌, [], codes, length, map, Ok};
 ghost use Rattle.std.specs.Fmt.{decimal};
 ghost use Rattle.std.specs.List.{flat_map};
 ghost use Rattle.cat_model.specs.Lines.{line_text, reply_text, segment_words};
 ghost use Rattle.cat_model.specs.Run as run;
 ghost use Rattle.cat_protocol.specs.sending.Out.{Sent};
 ghost use Rattle.cat_protocol.specs.replies.Reply.{news_in_reply, segment_stat_of, stat_of};
+ghost use Rattle.cat_protocol.specs.replies.Words.{word_text};
 
 use crate::replies::news::{News, SegmentStat, Stat};
 use crate::replies::words::{Word, send_line};
@@ -57,23 +58,29 @@ fn send_counted<W: Write>(
     send_line(session, &[Word::Plain(b"OK"), Word::Plain(told), count], to)
 }
 
+/// What stands behind the session in the first line of how the service stands.
+fn stat_words(stat: &Stat) -> [Word<'static>; 7]
+    ensures { map word_text result ≡ codes "OK" ∷ decimal stat.now.writes ∷ decimal stat.now.buffered
+        ∷ decimal (length stat.now.segments.items) ∷ decimal stat.now.views ∷ decimal stat.now.cached ∷ decimal stat.now.pending ∷ [] }
+{
+    [
+        Word::Plain(b"OK"),
+        Word::Number(stat.writes),
+        Word::Number(stat.buffered as u64),
+        Word::Number(stat.segments.as_slice().len() as u64),
+        Word::Number(stat.views as u64),
+        Word::Number(stat.cached as u64),
+        Word::Number(stat.pending),
+    ]
+}
+
 /// Answers how the service stands: six numbers, and a line for each segment.
 fn send_stat<W: Write>(session: SessionNo, stat: &Stat, to: &mut W) -> Result<(), WriteFault>
     ensures { Sent (W.contents to.old) (W.contents to.new) result
         (reply_text session (Ok (run.Answer.news (run.News.state (stat_of stat.now))))) }
 {
-    let segments = stat.segments.as_slice();
-    let numbers = [
-        Word::Plain(b"OK"),
-        Word::Number(stat.writes),
-        Word::Number(stat.buffered as u64),
-        Word::Number(segments.len() as u64),
-        Word::Number(stat.views as u64),
-        Word::Number(stat.cached as u64),
-        Word::Number(stat.pending),
-    ];
-    send_line(session, &numbers, to)?;
-    send_segments(session, segments, to)
+    send_line(session, &stat_words(stat), to)?;
+    send_segments(session, stat.segments.as_slice(), to)
 }
 
 fn send_segments<W: Write>(

@@ -1,5 +1,5 @@
 //! Lines of a reply, word by word.
-ghost use Rattle.std.specs.Prelude.{◌∷◌, ◌++◌, map};
+ghost use Rattle.std.specs.Prelude.{◌∷◌, ◌++◌, codes, map};
 ghost use Rattle.std.specs.Fmt.{decimal};
 ghost use Rattle.std.specs.List.{flat_map};
 ghost use Rattle.cat_model.specs.Lines.{line_text};
@@ -52,16 +52,19 @@ pub(crate) fn put_behind_space<W: Write>(
     put_word(line, word, to)
 }
 
-/// Adds the number behind a space. The buffer that it is spelled in is lent, so that one serves all lines of a reply.
+/// Begins a line of a session that is spelled already, by it and a number. The buffer that the number is spelled in is lent, so
+/// that one serves all lines of a reply.
 #[inline(always)]
-pub(crate) fn put_number_behind_space<W: Write>(
+pub(crate) fn put_first<W: Write>(
     line: &mut Gathered,
+    session: &[u8],
     number: u64,
     digits: &mut Buffer,
     to: &mut W,
 ) -> Result<(), WriteFault>
-    ensures { Gathers (W.contents to.old) (W.contents to.new) line.old line.new result (32 ∷ decimal number) }
+    ensures { Gathers (W.contents to.old) (W.contents to.new) line.old line.new result (session.now ++ 32 ∷ decimal number) }
 {
+    line.put(session, to)?;
     line.put(b" ", to)?;
     line.put(digits.format(number).as_bytes(), to)
 }
@@ -76,6 +79,38 @@ fn put_words<W: Write>(line: &mut Gathered, words: &[Word], to: &mut W) -> Resul
     Ok(())
 }
 
+/// Adds the session that a line begins with.
+fn put_session<W: Write>(
+    line: &mut Gathered,
+    session: SessionNo,
+    to: &mut W,
+) -> Result<(), WriteFault>
+    ensures { Gathers (W.contents to.old) (W.contents to.new) line.old line.new result (decimal session) }
+{
+    line.put_number(session as u64, to)
+}
+
+/// Adds the end of a line.
+#[inline(always)]
+fn end_line<W: Write>(line: &mut Gathered, to: &mut W) -> Result<(), WriteFault>
+    ensures { Gathers (W.contents to.old) (W.contents to.new) line.old line.new result (codes "\n") }
+{
+    line.put(b"\n", to)
+}
+
+/// Adds the last word of a line behind a space, and the end of the line.
+#[inline(always)]
+pub(crate) fn put_last<W: Write>(
+    line: &mut Gathered,
+    word: Word,
+    to: &mut W,
+) -> Result<(), WriteFault>
+    ensures { Gathers (W.contents to.old) (W.contents to.new) line.old line.new result (behind_space word.entry ++ codes "\n") }
+{
+    put_behind_space(line, word, to)?;
+    end_line(line, to)
+}
+
 /// Adds a line of the session.
 pub(crate) fn put_line<W: Write>(
     line: &mut Gathered,
@@ -86,9 +121,9 @@ pub(crate) fn put_line<W: Write>(
     ensures { Gathers (W.contents to.old) (W.contents to.new) line.old line.new result
         (line_text (decimal session ∷ map word_text words.now)) }
 {
-    line.put_number(session as u64, to)?;
+    put_session(line, session, to)?;
     put_words(line, words, to)?;
-    line.put(b"\n", to)
+    end_line(line, to)
 }
 
 /// Writes a line of the session.

@@ -9,7 +9,7 @@ use std::io;
 use std::io::{ErrorKind, Write};
 
 /// A write failed, or took nothing.
-#[derive(Debug, Drop)]
+#[derive(Drop)]
 pub struct WriteFault;
 
 /// How many bytes a call of the writer took that answers so: none where a signal interrupted it, which is no fault. To take

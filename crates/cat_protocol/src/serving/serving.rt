@@ -1,9 +1,11 @@
 //! Lines read from a reader, answered to a writer: the first opens the machine, and the others are answered by it.
-ghost use Rattle.std.specs.Prelude.{◌≡◌, ◌<◌, ◌≤◌, true, [], ◌∷◌, OnOk, length, take, map, option_map, vec_capacity};
+ghost use Rattle.std.specs.Prelude.{◌≡◌, ◌<◌, ◌≤◌, true, [], ◌∷◌, OnOk, Result, length, take, map, option_map, vec_capacity};
 ghost use Rattle.cat_model.specs.Input.{ended_after, rest_after};
 ghost use Rattle.cat_model.specs.Served.{refused_text, ServesBy};
 ghost use Rattle.cat_protocol.specs.declared.serving.machine.Stage.TheVariants.{Waiting, Open};
-ghost use Rattle.cat_protocol.specs.serving.Machine.{short_line, stands_open};
+ghost use Rattle.cat_protocol.specs.declared.sending.pieces.WriteFault.{WriteFault};
+ghost use Rattle.cat_protocol.specs.sending.Out.{Sent};
+ghost use Rattle.cat_protocol.specs.serving.Machine.{opened_text, short_line, stands_open};
 ghost use Rattle.cat_protocol.specs.serving.Serving.{Comes, IsReady, IsRefusedAs, Says, ServesLines, came_by, ended_as, ended_of, last_lines};
 ghost use Rattle.cat_protocol.specs.serving.Serving.{LeadsTo, RefusedAt, ServesFlushed, StandsFrom};
 
@@ -16,7 +18,7 @@ use std::io;
 use std::io::{ErrorKind, Read, Write};
 
 /// Why serving ended before the end of the input.
-#[derive(Clone, Copy, Debug, PartialEq, Eq)]
+#[derive(Clone, Copy)]
 pub enum ServeFault {
     /// The first line was refused, or memory to read it was, and that is all that was said. The program ends with
     /// status 2.
@@ -56,6 +58,14 @@ fn refuse<W: Write>(refusal: Refusal, to: &mut W) -> ServeFault
     }
 }
 
+/// Says of a machine that was just opened at which token it stands.
+fn say_opened<M: Machine, W: Write>(machine: &M, to: &mut W) -> Result<(), ServeFault>
+    ensures { (sent : Result (Unit {0}) WriteFault) × Sent (W.contents to.old) (W.contents to.new) sent (opened_text (M.token machine.now))
+        × (result ≡ ended_of sent) }
+{
+    as_ended(send_opened(machine.start_token(), to))
+}
+
 /// Opens a machine by the first line and says so, or refuses the line.
 fn open_machine<M: Machine, W: Write>(
     alloc: Global,
@@ -68,7 +78,7 @@ fn open_machine<M: Machine, W: Write>(
 {
     match M::open(alloc, seed, line) {
         Ok(machine) => {
-            let ended = as_ended(send_opened(machine.start_token(), to));
+            let ended = say_opened(&machine, to);
             Served {
                 stage: Stage::Open(machine),
                 ended,

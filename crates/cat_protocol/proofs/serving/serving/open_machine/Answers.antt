@@ -1,4 +1,4 @@
-use Rattle.std.proofs.Common.{sym, ap, refl}
+use Rattle.std.proofs.Common.{sym, refl}
 use Rattle.cat_model.specs.Served.{refused_text}
 use Rattle.cat_protocol.specs.serving.Machine.{opened_text}
 use Rattle.cat_protocol.specs.serving.Serving.{Says}
@@ -9,9 +9,9 @@ use Rattle.cat_protocol.proofs.serving.serving.open_machine.Goals as goal
 pub returns-in-Ok : goal.returns-in-Ok
 returns-in-Ok g c =
     let m = g.M.Machine in
-    serves_with (sym c.as_ended-ended.ensures)
-    (serves_sent (Says m.opens m.step m.token) (Waiting c.args.seed) _ (opened_text c.start_token.result) c.in-Ok.machine _ _ c.send_opened.result
-    (c.in-Ok.ensures, ap opened_text c.start_token.ensures) c.send_opened.ensures)
+    let said = c.say_opened-ended.ensures in
+    serves_with (sym said.2)
+    (serves_sent (Says m.opens m.step m.token) (Waiting c.args.seed) _ (opened_text (m.token c.in-Ok.machine)) c.in-Ok.machine _ _ said.0 (c.in-Ok.ensures, refl) said.1)
 
 pub returns-in-Err : goal.returns-in-Err
 returns-in-Err g c =
