@@ -1,3 +1,4 @@
 pub mod Listed
 pub mod Pieces
 pub mod Refused
+pub mod Told

@@ -11,3 +11,9 @@ pub returns-in_ok-put-in-Marked : goal.returns-in_ok-put-in-Marked
 returns-in_ok-put-in-Marked g c =
     rw c.in-Marked.is
     (gathered_behind _ _ _ _ _ _ _ (codes "=") _ c.in_ok-put-in-Marked.ensures c.put-in-Marked-2.ensures)
+
+pub returns-in-Number : goal.returns-in-Number
+returns-in-Number g c = rw c.in-Number.is c.put_number.ensures
+
+pub returns-in-Plain : goal.returns-in-Plain
+returns-in-Plain g c = rw c.in-Plain.is c.put.ensures
