@@ -26,6 +26,14 @@ abbrev pub EndsVersion : {S F L I O : Type 0} → (S → Act F L I O → S → T
 EndsVersion does s true ending t = EndsAs does s (Ok tt) ending t
 EndsVersion does s false ending t = EndsAs does s (Err (Serving fault.Write)) ending t
 
+-- so it ends that tells the version
+abbrev pub TellsVersion : {S F L I O : Type 0} → (S → Act F L I O → S → Type 0) → S → Ending → S → Type 0
+TellsVersion {S} does s ending t = (written : Bool) × (told : S) × does s (Act.told_version written) told × EndsVersion does told written ending t
+
+-- and that tells how the program is called
+abbrev pub TellsUsage : {S F L I O : Type 0} → (S → Act F L I O → S → Type 0) → S → Ending → S → Type 0
+TellsUsage does s ending t = does s Act.told_usage t × (ending ≡ WrongArguments)
+
 -- What is asked for is done, and nothing else: the version, and how the program is called, are told without a word being read or a folder
 -- being opened.
 abbrev pub DoesAsked : {S F L I O : Type 0} → (S → Act F L I O → S → Type 0) → (I → Option Text) → (O → Option Text) → DirectoryKind F → Asked → S → Ending
@@ -36,9 +44,8 @@ DoesAsked does remaining contents kind (Asked.in_threads path) s ending t = Ends
 DoesAsked does remaining contents kind (Asked.streamed_in_memory count) s ending t = EndsAfter does (ThreadsMemory does contents) s ending t
 DoesAsked does remaining contents kind (Asked.streamed_in_folder count path) s ending t =
     EndsAfter does (ThreadsPath does remaining contents kind path count) s ending t
-DoesAsked {S} does remaining contents kind Asked.version s ending t =
-    (written : Bool) × (told : S) × does s (Act.told_version written) told × EndsVersion does told written ending t
-DoesAsked does remaining contents kind Asked.nothing s ending t = does s Act.told_usage t × (ending ≡ WrongArguments)
+DoesAsked does remaining contents kind Asked.version s ending t = TellsVersion does s ending t
+DoesAsked does remaining contents kind Asked.nothing s ending t = TellsUsage does s ending t
 
 -- what is asked for by words, which may be ones that can't be read
 abbrev pub asked_by : Option (List (List ℕ)) → Asked

@@ -98,12 +98,17 @@ ServesUnlocked does remaining contents kind refusal.InUse s told t =
 ServesUnlocked does remaining contents kind refusal.Device s told t = TellsServed (ServesAt does remaining contents kind []) s told t
 ServesUnlocked does remaining contents kind refusal.Memory s told t = TellsServed (RefusesAtOnce does contents) s told t
 
--- The lock of the path's folder is asked for: where it is had, it is kept until what the first argument says was done.
+-- The lock, which is had, is kept until what the first argument says was done.
+abbrev pub KeepsLock : {S F L I O : Type 0} → (S → Result (Unit {0}) RunFault → S → Type 0) → (S → Act F L I O → S → Type 0) → L → S
+    → Result (Unit {0}) RunFault → S → Type 0
+KeepsLock {S} locked does lock s told t = (done : S) × locked s told done × does done (Act.unlocked lock) t
+
+-- The lock of the path's folder is asked for: where it is had, it is kept so.
 abbrev pub LocksFirst : {S F L I O : Type 0} → (S → Result (Unit {0}) RunFault → S → Type 0) → (S → Act F L I O → S → Type 0) → (I → Option Text)
     → (O → Option Text) → DirectoryKind F → List ℕ → S → Result (Unit {0}) RunFault → S → Type 0
 LocksFirst {S} {L = L} locked does remaining contents kind path s told t =
     (answer : Result L LockRefusal) × (asked : S) × does s (Act.locked path answer) asked
-    × MatchResult answer (λ lock. (done : S) × locked asked told done × does done (Act.unlocked lock) t)
+    × MatchResult answer (λ lock. KeepsLock locked does lock asked told t)
     (λ e. ServesUnlocked does remaining contents kind e asked told t)
 
 -- so it is told of serving over the folder of the path

@@ -7,8 +7,8 @@ ghost use Rattle.cat_directory.specs.Names.{by_names};
 ghost use Rattle.cat_service.specs.cat_protocol.serving.Serving.{IsRefusedAs};
 ghost use Rattle.catalogue.specs.Asked.{task_told};
 ghost use Rattle.catalogue.specs.Ended.{serving_told, status_of};
-ghost use Rattle.catalogue.specs.Runs.{DoesAsked, EndsAs, Runs, asked_by};
-ghost use Rattle.catalogue.specs.Served.{RefusesAtOnce, ServesAt, ServesFolder, ServesMemory, ServesPath, ServesStreams, ServesUnlocked};
+ghost use Rattle.catalogue.specs.Runs.{DoesAsked, EndsAfter, EndsAs, Runs, TellsUsage, TellsVersion, asked_by};
+ghost use Rattle.catalogue.specs.Served.{KeepsLock, RefusesAtOnce, ServesAt, ServesFolder, ServesMemory, ServesPath, ServesStreams, ServesUnlocked, TellsServed};
 
 use crate::arguments::Task;
 use crate::endings::{Ending, RunFault};
@@ -136,18 +136,29 @@ pub(crate) fn serve_unlocked<S: System>(
     }
 }
 
-/// Serves standard input to standard output over the folder at the path, once its lock is had, which is kept to the end. One that
-/// can't be listed is told in the reply to the schema line, and is left as it is.
+/// Serves standard input to standard output over the folder at the path, whose lock is had and kept to the end.
+fn serve_locked<S: System>(
+    system: &mut S,
+    alloc: Global,
+    path: &str,
+    lock: S::Lock,
+) -> Result<(), RunFault>
+    ensures { KeepsLock (TellsServed (ServesAt S.does S.Reader.remaining S.Writer.contents
+        (by_names S.Folder.bytes S.Folder.may_leave S.Folder.can_fail S.Folder.fault_count) path.now)) S.does lock system.old result system.new }
+{
+    let served = serve_at(system, alloc, path);
+    system.unlock(lock);
+    told(served)
+}
+
+/// Serves standard input to standard output over the folder at the path, once its lock is had. One that can't be listed is told in
+/// the reply to the schema line, and is left as it is.
 fn serve_path<S: System>(system: &mut S, alloc: Global, path: &str) -> Result<(), RunFault>
     ensures { ServesPath S.does S.Reader.remaining S.Writer.contents
         (by_names S.Folder.bytes S.Folder.may_leave S.Folder.can_fail S.Folder.fault_count) path.now system.old result system.new }
 {
     match system.lock(path) {
-        Ok(lock) => {
-            let served = serve_at(system, alloc, path);
-            system.unlock(lock);
-            told(served)
-        }
+        Ok(lock) => serve_locked(system, alloc, path, lock),
         Err(refusal) => serve_unlocked(system, alloc, refusal),
     }
 }
@@ -165,6 +176,33 @@ fn ending_after<S: System>(system: &mut S, served: Result<(), RunFault>) -> Endi
     }
 }
 
+/// Serves over the folder at the path, and says how the program ends.
+fn do_serve_path<S: System>(system: &mut S, alloc: Global, path: &str) -> Ending
+    ensures { EndsAfter S.does (ServesPath S.does S.Reader.remaining S.Writer.contents
+        (by_names S.Folder.bytes S.Folder.may_leave S.Folder.can_fail S.Folder.fault_count) path.now) system.old result system.new }
+{
+    let served = serve_path(system, alloc, path);
+    ending_after(system, served)
+}
+
+/// Says the version.
+fn say_version<S: System>(system: &mut S) -> Ending
+    ensures { TellsVersion S.does system.old result system.new }
+{
+    match system.tell_version() {
+        Ok(()) => Ending::EndOfInput,
+        Err(_) => ending_after(system, Err(RunFault::Serving(ServeFault::Write))),
+    }
+}
+
+/// Says how the program is called.
+fn say_usage<S: System>(system: &mut S) -> Ending
+    ensures { TellsUsage S.does system.old result system.new }
+{
+    system.tell_usage();
+    Ending::WrongArguments
+}
+
 /// Does the task.
 fn do_task<S: System, R: AllocGlobal + Clone + Drop + Send + Sync + Threads + Wait + Clock>(
     rt: &R,
@@ -180,10 +218,7 @@ fn do_task<S: System, R: AllocGlobal + Clone + Drop + Send + Sync + Threads + Wa
             let served = serve_memory(system, rt.alloc());
             ending_after(system, served)
         }
-        Task::InFolder(path) => {
-            let served = serve_path(system, rt.alloc(), path);
-            ending_after(system, served)
-        }
+        Task::InFolder(path) => do_serve_path(system, rt.alloc(), path),
         Task::InThreads(path) => {
             let served = thread_path(rt, system, path, Threading::Each);
             ending_after(system, served)
@@ -196,14 +231,8 @@ fn do_task<S: System, R: AllocGlobal + Clone + Drop + Send + Sync + Threads + Wa
             let served = thread_path(rt, system, path, Threading::By(count));
             ending_after(system, served)
         }
-        Task::Version => match system.tell_version() {
-            Ok(()) => Ending::EndOfInput,
-            Err(_) => ending_after(system, Err(RunFault::Serving(ServeFault::Write))),
-        },
-        Task::Usage => {
-            system.tell_usage();
-            Ending::WrongArguments
-        }
+        Task::Version => say_version(system),
+        Task::Usage => say_usage(system),
     }
 }
 
