@@ -1,8 +1,9 @@
 -- What a caller is told by a step of what lies under the lock, from what the passes are before it and behind it.
 use Rattle.std.proofs.Common.{◌≡◌, ℕ, suc, ◌+◌, ◌-◌, ◌≤◌, List, [], ◌∷◌, ◌++◌, length, sym, ap, ◌∙◌, subst, arith, length-append}
+use mathlib.Core.List.{IsPrefix}
 use Rattle.cat_threads.specs.history.Entries.{LogEntry, has_session, writes_of}
 use Rattle.cat_threads.specs.history.Rules.{Sight, caller, noted, old_of, recorded, scribe, Compared}
-use Rattle.cat_threads.specs.service.Passes.{Follows, Idle, Refreshed, Seen, Shared}
+use Rattle.cat_threads.specs.service.Passes.{Ends, Follows, Idle, Refreshed, Seen, Shared}
 use Rattle.cat_threads.proofs.history.Lists.{prefix_length}
 use Rattle.cat_threads.proofs.service.Passed.{follows_told, has_self, seen}
 
@@ -65,3 +66,12 @@ refreshed_told start session t old joined now before is k count list token =
     let shorter = prefix_length old.list joined.list k.begins in
     let long : length now.list ≡ length joined.list = ap length list in
     subst (λ (u : Seen). Refreshed start t u (seen start session now)) is record { from = omega arith; upto = omega arith; seen = omega arith }
+
+-- Once all writes are in the list, it begins with what a pass has seen, and has just its session's writes.
+pub ends_told : (start session : ℕ) (old joined now : Sight) (before : Seen) → seen start session old ≡ before → Compared joined (old_of old)
+    → old ≡ caller old.list old.token (session ∷ []) → now.list ≡ joined.list → Ends now.list before
+ends_told start session old joined now before is k own list =
+    subst (λ (u : Seen). Ends now.list u) is record {
+      begins = subst (λ l. IsPrefix old.list l) (sym list) k.begins;
+      mine = ap (writes_of session) list ∙ k.mine session (ap (λ (x : Sight). has_session session x.own) own ∙ has_self session);
+    }

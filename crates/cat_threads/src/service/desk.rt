@@ -5,11 +5,11 @@ ghost use Rattle.cat_base.specs.declared.refusal.Refusal.TheVariants.{Device, Fu
 ghost use Rattle.cat_commands.specs.cat_ledger.Grants.{released_session, released_token};
 ghost use Rattle.cat_commands.specs.cat_ledger.Ledgers.{device_in, shape_in};
 ghost use Rattle.cat_threads.specs.history.Entries.{entry, has_session};
-ghost use Rattle.cat_threads.specs.history.Rules.{NoStrangers, noted, recorded, scribe as scribe_sight};
+ghost use Rattle.cat_threads.specs.history.Rules.{Each, noted, recorded, scribe as scribe_sight};
 ghost use Rattle.cat_threads.specs.service.Passes.{Ends, Follows, Granted, Idle, IfNew, Refreshed, Wrote};
 ghost use Rattle.cat_threads.specs.sharing.Grounds.{ground_of};
-ghost use Rattle.cat_threads.specs.sharing.ShareLaws.{IsHistoryOf, IsOfGroundList};
-ghost use Rattle.cat_threads.specs.service.Begins.{IsJustOpened};
+ghost use Rattle.cat_threads.specs.sharing.ShareLaws.{IsOfGroundList};
+ghost use Rattle.cat_threads.specs.service.Begins.{IsJustOpened, OneHistory};
 ghost use Rattle.cat_threads.specs.service.Chores.{IsToldOver, chore_done};
 ghost use Rattle.cat_threads.specs.service.Writes.{PutsForeign, write_of};
 
@@ -289,22 +289,11 @@ impl<D: Directory + Shelf, J: Naming> Desk<D, J> {
         })
     }
 
-    /// Compares what a caller has seen with the whole list. The pass is given up.
-    pub(crate) fn check<R: Wait>(&mut self, rt: &R, cell: &Cell, pass: Pass<J>)
+    /// The ledger, whose table is that of the list, once what each pass has seen was compared with the whole list. The passes are
+    /// given up.
+    pub(crate) fn into_ledger<R: Wait>(self, rt: &R, cell: &Cell, passes: Vec<Pass<J>>) -> Ledger<D>
         requires { cell.now.table.shared.table_id ≡ J.table }
-        ensures same { self.new.list ≡ self.old.list }
-        ensures ends { Ends self.new.list pass }
-    {
-        let mut pass = pass;
-        history::join(rt, cell, &mut self.scribe, &mut pass.seat);
-        history::part(cell, &mut self.scribe);
-    }
-
-    /// The ledger, whose table is that of the list.
-    pub(crate) fn into_ledger<R: Wait>(self, rt: &R, cell: &Cell) -> Ledger<D>
-        requires { cell.now.table.shared.table_id ≡ J.table }
-        ensures history { IsHistoryOf (D.bytes (device_in result)) (shape_in result) J.from self.list }
-        ensures others { NoStrangers J.sessions self.list }
+        ensures { OneHistory (D.bytes (device_in result)) (shape_in result) J.from J.sessions passes.items }
     {
         let Desk {
             alloc: _,
@@ -315,9 +304,34 @@ impl<D: Directory + Shelf, J: Naming> Desk<D, J> {
             mut scribe,
             of: _,
         } = self;
+        check_all(rt, cell, &mut scribe, passes);
         history::look(rt, cell, &mut scribe);
         ledger
     }
+}
+
+/// Compares what each pass has seen with the whole list. It needs the scribe's pass alone, and no ledger.
+fn check_all<J: Naming, R: Wait>(rt: &R, cell: &Cell, scribe: &mut Seat, passes: Vec<Pass<J>>)
+    requires cell { (cell.now.table.shared.table_id ≡ J.table) × (scribe.old.table_id ≡ J.table) }
+    requires desk { cell_view scribe.old ≡ scribe_sight (cell_view scribe.old).list (cell_view scribe.old).token J.sessions [] }
+    ensures same { (scribe.new.table_id ≡ scribe.old.table_id) × (cell_view scribe.new ≡ cell_view scribe.old) }
+    ensures ends { Each (Ends (cell_view scribe.new).list) passes.items }
+{
+    for pass in passes {
+        check(rt, cell, scribe, pass);
+    }
+}
+
+/// Compares what a caller has seen with the whole list. The pass is given up.
+fn check<J: Naming, R: Wait>(rt: &R, cell: &Cell, scribe: &mut Seat, pass: Pass<J>)
+    requires cell { (cell.now.table.shared.table_id ≡ J.table) × (scribe.old.table_id ≡ J.table) }
+    requires desk { cell_view scribe.old ≡ scribe_sight (cell_view scribe.old).list (cell_view scribe.old).token J.sessions [] }
+    ensures same { (scribe.new.table_id ≡ scribe.old.table_id) × (cell_view scribe.new ≡ cell_view scribe.old) }
+    ensures ends { Ends (cell_view scribe.new).list pass }
+{
+    let mut pass = pass;
+    history::join(rt, cell, scribe, &mut pass.seat);
+    history::part(cell, scribe);
 }
 
 /// The write that the call picks is noted, which was answered this number: it is the next behind the list.

@@ -4,12 +4,12 @@ ghost use Rattle.crossbeam_utils.specs.Seq.{cell_view};
 ghost use Rattle.cat_base.specs.declared.refusal.Refusal.TheVariants.{Device, Full, Gone, Kind, Memory, NotHeld, Spent};
 ghost use Rattle.cat_commands.specs.cat_ledger.Grants.{released_session, released_token};
 ghost use Rattle.cat_commands.specs.cat_ledger.Ledgers.{device_in, shape_in};
-ghost use Rattle.cat_threads.specs.history.Rules.{Each, scribe as scribe_sight};
+ghost use Rattle.cat_threads.specs.history.Rules.{scribe as scribe_sight};
 ghost use Rattle.cat_threads.specs.history.Entries.{LogEntry};
 ghost use Rattle.cat_threads.specs.sharing.Grounds.{ground_of};
 ghost use Rattle.cat_threads.specs.sharing.ShareLaws.{IsOfGroundList};
 ghost use Rattle.cat_threads.specs.service.Begins.{OneHistory};
-ghost use Rattle.cat_threads.specs.service.Passes.{AreOne, Ends, Follows, Granted, Idle, IfNew, Refreshed, Wrote, all_different, newcomer, seated_by};
+ghost use Rattle.cat_threads.specs.service.Passes.{AreOne, Follows, Granted, Idle, IfNew, Refreshed, Wrote, all_different, newcomer, seated_by};
 ghost use Rattle.cat_threads.specs.service.Chores.{IsToldOver, chore_done};
 ghost use Rattle.cat_threads.specs.service.Writes.{PutsForeign, write_of};
 
@@ -219,25 +219,7 @@ impl<D: Directory + Shelf, J: Naming> Service<D, J> {
         ensures { OneHistory (D.bytes (device_in result)) (shape_in result) J.from J.sessions passes.items }
     {
         let Service { cell, desk } = self;
-        let mut desk = desk.into_inner();
-        check_all(rt, &cell, &mut desk, passes);
-        desk.into_ledger(rt, &cell)
-    }
-}
-
-/// Compares what each pass has seen with the whole list.
-fn check_all<D: Directory + Shelf, J: Naming, R: Wait>(
-    rt: &R,
-    cell: &Cell,
-    desk: &mut Desk<D, J>,
-    passes: Vec<Pass<J>>,
-)
-    requires { cell.now.table.shared.table_id ≡ J.table }
-    ensures same { desk.new.list ≡ desk.old.list }
-    ensures ends { Each (Ends desk.new.list) passes.items }
-{
-    for pass in passes {
-        desk.check(rt, cell, pass);
+        desk.into_inner().into_ledger(rt, &cell, passes)
     }
 }
 
