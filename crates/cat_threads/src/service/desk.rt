@@ -260,25 +260,23 @@ impl<D: Directory + Shelf, J: Naming> Desk<D, J> {
 }
 
 impl<D: Directory + Shelf, J: Naming> Desk<D, J> {
-    /// A ledger as it is opened, beside the scribe's pass. No set is cached. The ledger is handed back where memory is wanting.
+    /// A ledger as it is opened, beside the scribe's pass. No set is cached.
     pub(crate) fn new(
         alloc: Global,
         ledger: Ledger<D>,
+        filters: Filters,
         scribe: Seat,
-    ) -> Result<Desk<D, J>, Ledger<D>>
+    ) -> Desk<D, J>
         requires names { (scribe.table_id ≡ J.table) × (cell_view scribe ≡ scribe_sight [] 0 J.sessions []) }
         requires ground { J.from ≡ ground_of (shape_in ledger) }
         requires fresh { IsJustOpened (D.bytes (device_in ledger)) (shape_in ledger) }
-        ensures ok { IfOk result (λ d. (d.list ≡ []) × (d.token ≡ J.from.start.token)) }
-        ensures err { IfErr result (λ l. l ≡ ledger) }
+        requires empty { filters ≡ record { cached = []; noted = []; warming = None } }
+        ensures { (result.list ≡ []) × (result.token ≡ J.from.start.token) }
     {
-        let Ok(filters) = Filters::new(alloc) else {
-            return Err(ledger);
-        };
         // A ledger of the model is carried, as any that was opened.
         ledger.newest_lasts();
         let start = ledger.count();
-        Ok(Desk {
+        Desk {
             alloc,
             ledger,
             filters,
@@ -286,7 +284,7 @@ impl<D: Directory + Shelf, J: Naming> Desk<D, J> {
             newest: start,
             scribe,
             of: PhantomData,
-        })
+        }
     }
 
     /// The ledger, whose table is that of the list, once what each pass has seen was compared with the whole list. The passes are

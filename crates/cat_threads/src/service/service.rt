@@ -23,6 +23,7 @@ use crate::service::pass::Pass;
 use crate::service::writes::Write;
 use cat_base::{Refusal, SessionNo, Token, WriteNo};
 use cat_commands::cat_cached_sets::Query;
+use cat_commands::cat_cached_sets::filters::Filters;
 use cat_commands::cat_ledger::cat_ledger_state::Hold;
 use cat_commands::cat_ledger::{Grant, Ledger, Released};
 use cat_commands::cat_protocol::Prepared;
@@ -119,10 +120,7 @@ impl<D: Directory + Shelf, J: Naming> Service<D, J> {
         ensures back { IfErr result (λ q. q ≡ query) }
     {
         match self.desk.try_lock() {
-            Some(desk) => {
-                let mut desk = desk;
-                Ok(desk.prepare(rt, &self.cell, me, token, query))
-            }
+            Some(mut desk) => Ok(desk.prepare(rt, &self.cell, me, token, query)),
             None => Err(query),
         }
     }
@@ -132,10 +130,7 @@ impl<D: Directory + Shelf, J: Naming> Service<D, J> {
     /// wait. (Lucene: `UsageTrackingQueryCachingPolicy.onUse`.)
     pub fn note_if_free(&self, query: Query) -> Option<Noted> {
         match self.desk.try_lock() {
-            Some(desk) => {
-                let mut desk = desk;
-                Some(desk.note(query))
-            }
+            Some(mut desk) => Some(desk.note(query)),
             None => {
                 drop(query);
                 None
@@ -198,18 +193,16 @@ impl<D: Directory + Shelf, J: Naming> Service<D, J> {
         ensures passes { IfOk result (λ r. r.1.items ≡ map (newcomer J.from.start.token) sessions.now) }
         ensures err { IfErr result (λ l. l ≡ begun.ledger) }
     {
-        let (cell, scribe, ledger) = begun.into_parts();
-        let mut scribe = scribe;
+        let (cell, mut scribe, ledger) = begun.into_parts();
         let Ok(passes) = seats(alloc, &cell, &mut scribe, sessions) else {
             return Err(ledger);
         };
-        match Desk::new(alloc, ledger, scribe) {
-            Ok(desk) => {
-                let desk = Mutex::new(desk);
-                Ok((Service { cell, desk }, passes))
-            }
-            Err(ledger) => Err(ledger),
-        }
+        let Ok(filters) = Filters::new(alloc) else {
+            return Err(ledger);
+        };
+        let desk = Desk::new(alloc, ledger, filters, scribe);
+        let desk = Mutex::new(desk);
+        Ok((Service { cell, desk }, passes))
     }
 
     /// The ledger, once all callers have ended. Its table is that of one list of writes, which begins with what each pass has

@@ -22,4 +22,4 @@ invariant_of-result g c =
     let zero = ap (λ (x : Sight). x.token) n.1 in
     let is = c.count-start.ensures in
     let s = shape_in l in
-    (n.0, omega arith, omega arith, a, (c.newest_lasts.ensures.carried, subst (λ f. HasSets f s) (sym c.in-Ok.ensures.ok) (empty_are_right s)))
+    (n.0, omega arith, omega arith, a, (c.newest_lasts.ensures.carried, subst (λ f. HasSets f s) (sym c.requires.empty) (empty_are_right s)))
