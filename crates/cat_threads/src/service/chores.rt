@@ -6,7 +6,6 @@ ghost use Rattle.cat_commands.specs.cat_cached_sets.filters.Known.{Remembers, Re
 ghost use Rattle.cat_commands.specs.cat_ledger.Answering.{AnswersSaid};
 ghost use Rattle.cat_commands.specs.cat_ledger.Ledgers.{shape_in};
 ghost use Rattle.cat_commands.specs.cat_protocol.replies.Reply.{reply_of};
-ghost use Rattle.cat_commands.specs.ledger.Chores.{chore_of};
 ghost use Rattle.cat_threads.specs.service.Chores.{answer_told, chore_done, said_by};
 
 use cat_base::{Generation, Refusal, Text};
@@ -133,18 +132,14 @@ impl Outcome {
     }
 }
 
-/// A chore that makes no cached set and is of no commit.
-fn upkeep<D: Directory + Shelf>(
-    alloc: Global,
+/// Gives a snapshot of the commit back.
+fn unsnapped<D: Directory + Shelf>(
     ledger: &mut Ledger<D>,
-    filters: &mut Filters,
-    chore: commands::Chore,
+    generation: Generation,
 ) -> Result<Answer, Refusal>
-    ensures answers { AnswersSaid D.bytes 0 (Said.chore (chore_of chore)) ledger.old (reply_of result) ledger.new }
-    ensures known { Remembers filters.old filters.new }
-    ensures below { RemembersBelow filters.old filters.new }
+    ensures { AnswersSaid D.bytes 0 (Said.release_snapshot generation) ledger.old (reply_of result) ledger.new }
 {
-    commands::maintain(alloc, ledger, filters, 0, chore)
+    commands::left_told(ledger.unsnapshot(generation))
 }
 
 /// Does the chore, by the call for the line that session 0 would say.
@@ -159,17 +154,19 @@ pub(crate) fn answer<D: Directory + Shelf>(
         ⊎ ((ledger.new ≡ ledger.old) × FiltersRemember (segments_of (shape_in ledger.old).leaves) filters.old filters.new
         × FiltersRememberBelow (segments_of (shape_in ledger.old).leaves) filters.old filters.new) }
 {
-    match chore {
-        Chore::Merge => upkeep(alloc, ledger, filters, commands::Chore::Merge),
-        Chore::Force => upkeep(alloc, ledger, filters, commands::Chore::Force),
-        Chore::Sweep => upkeep(alloc, ledger, filters, commands::Chore::Sweep),
-        Chore::Stat => upkeep(alloc, ledger, filters, commands::Chore::Stat),
-        Chore::Warm => commands::warm(ledger, filters, 0),
-        Chore::Commit(text) => commands::number_told(ledger.commit(text.as_str())),
-        Chore::Note(generation) => commands::text_of_commit(alloc, ledger, *generation),
-        Chore::Snap => commands::number_told(ledger.snapshot()),
-        Chore::Unsnap(generation) => commands::left_told(ledger.unsnapshot(*generation)),
-        Chore::Prune(count) => commands::number_told(ledger.prune(*count)),
-        Chore::Files(generation) => commands::files_of_commit(ledger, *generation),
-    }
+    // What makes no cached set and is of no commit is one call.
+    let upkeep = match chore {
+        Chore::Merge => commands::Chore::Merge,
+        Chore::Force => commands::Chore::Force,
+        Chore::Sweep => commands::Chore::Sweep,
+        Chore::Stat => commands::Chore::Stat,
+        Chore::Warm => return commands::warm(ledger, filters, 0),
+        Chore::Commit(text) => return commands::number_told(ledger.commit(text.as_str())),
+        Chore::Note(generation) => return commands::text_of_commit(alloc, ledger, *generation),
+        Chore::Snap => return commands::number_told(ledger.snapshot()),
+        Chore::Unsnap(generation) => return unsnapped(ledger, *generation),
+        Chore::Prune(count) => return commands::number_told(ledger.prune(*count)),
+        Chore::Files(generation) => return commands::files_of_commit(ledger, *generation),
+    };
+    commands::maintain(alloc, ledger, filters, 0, upkeep)
 }

@@ -1,13 +1,15 @@
-use Rattle.std.proofs.Common.{◌≡◌, refl, sym, subst, inl, inr}
+use Rattle.std.proofs.Common.{◌≡◌, refl, sym, ap, ◌∙◌, subst, inl, inr}
 use Rattle.cat_model.specs.Lines.{Said}
 use Rattle.cat_model.specs.Run.{Reply}
 use Rattle.cat_ledger_laws.specs.shape.Ties.{ToldFiles}
 use Rattle.cat_commands.specs.cat_ledger.Answering.{AnswersSaid, number_reply}
 use Rattle.cat_commands.specs.cat_ledger.Ledgers.{LedgerOnDevice}
 use Rattle.cat_commands.specs.cat_protocol.replies.Reply.{reply_of}
+use Rattle.cat_commands.specs.ledger.Chores.{chore_of}
 use Rattle.cat_threads.specs.declared.service.chores.Chore.{Chore}
 use Rattle.cat_threads.specs.service.Chores.{said_by}
 use Rattle.cat_threads.proofs.service.chores.answer.Goals as goal
+use Rattle.cat_threads.proofs.service.chores.answer.Goals.{in-Force, in-Merge, in-Stat, in-Sweep}
 
 -- the reply to what is said, where the chore is the one that says it, and the reply that one
 so_told : {D : Type 0} (bytes : D → ToldFiles) (old new : LedgerOnDevice D) (a b : Chore) (r told : Reply)
@@ -15,33 +17,20 @@ so_told : {D : Type 0} (bytes : D → ToldFiles) (old new : LedgerOnDevice D) (a
 so_told bytes old new a b r told is same answers =
     subst (λ (k : Chore). AnswersSaid bytes 0 (said_by k) old r new) (sym is) (subst (λ (x : Reply). AnswersSaid bytes 0 (said_by b) old x new) (sym same) answers)
 
-pub returns-in-Merge-clause-answers : goal.returns-in-Merge-clause-answers
-returns-in-Merge-clause-answers g c =
-    subst (λ k. AnswersSaid g.D.Holder.bytes 0 (said_by k) c.args.ledger.now (reply_of c.upkeep.result) c.upkeep.new.ledger) (sym c.in-Merge.is) c.upkeep.ensures.answers
+pub returns-clause-answers : goal.returns-clause-answers
+returns-clause-answers g c =
+    let upkeep = c.match-chore.upkeep in
+    let said : said_by c.args.chore.now ≡ Said.chore (chore_of upkeep) =
+    elim c.match-chore.branch [
+      | in-Merge w ↦ ap said_by w.in-Merge.is ∙ sym (ap (λ k. Said.chore (chore_of k)) w.upkeep-is)
+      | in-Force w ↦ ap said_by w.in-Force.is ∙ sym (ap (λ k. Said.chore (chore_of k)) w.upkeep-is)
+      | in-Sweep w ↦ ap said_by w.in-Sweep.is ∙ sym (ap (λ k. Said.chore (chore_of k)) w.upkeep-is)
+      | in-Stat w ↦ ap said_by w.in-Stat.is ∙ sym (ap (λ k. Said.chore (chore_of k)) w.upkeep-is)
+    ] in
+    subst (λ (s : Said). AnswersSaid g.D.Holder.bytes 0 s c.args.ledger.now (reply_of c.maintain.result) c.maintain.new.ledger) (sym said) c.maintain.ensures.answers
 
-pub returns-in-Merge-clause-sets : goal.returns-in-Merge-clause-sets
-returns-in-Merge-clause-sets g c = inl (c.upkeep.ensures.known, c.upkeep.ensures.below)
-
-pub returns-in-Force-clause-answers : goal.returns-in-Force-clause-answers
-returns-in-Force-clause-answers g c =
-    subst (λ k. AnswersSaid g.D.Holder.bytes 0 (said_by k) c.args.ledger.now (reply_of c.upkeep-in-Force.result) c.upkeep-in-Force.new.ledger) (sym c.in-Force.is) c.upkeep-in-Force.ensures.answers
-
-pub returns-in-Force-clause-sets : goal.returns-in-Force-clause-sets
-returns-in-Force-clause-sets g c = inl (c.upkeep-in-Force.ensures.known, c.upkeep-in-Force.ensures.below)
-
-pub returns-in-Sweep-clause-answers : goal.returns-in-Sweep-clause-answers
-returns-in-Sweep-clause-answers g c =
-    subst (λ k. AnswersSaid g.D.Holder.bytes 0 (said_by k) c.args.ledger.now (reply_of c.upkeep-in-Sweep.result) c.upkeep-in-Sweep.new.ledger) (sym c.in-Sweep.is) c.upkeep-in-Sweep.ensures.answers
-
-pub returns-in-Sweep-clause-sets : goal.returns-in-Sweep-clause-sets
-returns-in-Sweep-clause-sets g c = inl (c.upkeep-in-Sweep.ensures.known, c.upkeep-in-Sweep.ensures.below)
-
-pub returns-in-Stat-clause-answers : goal.returns-in-Stat-clause-answers
-returns-in-Stat-clause-answers g c =
-    subst (λ k. AnswersSaid g.D.Holder.bytes 0 (said_by k) c.args.ledger.now (reply_of c.upkeep-in-Stat.result) c.upkeep-in-Stat.new.ledger) (sym c.in-Stat.is) c.upkeep-in-Stat.ensures.answers
-
-pub returns-in-Stat-clause-sets : goal.returns-in-Stat-clause-sets
-returns-in-Stat-clause-sets g c = inl (c.upkeep-in-Stat.ensures.known, c.upkeep-in-Stat.ensures.below)
+pub returns-clause-sets : goal.returns-clause-sets
+returns-clause-sets g c = inl (c.maintain.ensures.known, c.maintain.ensures.below)
 
 pub returns-in-Warm-clause-answers : goal.returns-in-Warm-clause-answers
 returns-in-Warm-clause-answers g c =
@@ -77,8 +66,7 @@ returns-in-Snap-clause-sets g c = inl (λ s k. k, λ n b. b)
 
 pub returns-in-Unsnap-clause-answers : goal.returns-in-Unsnap-clause-answers
 returns-in-Unsnap-clause-answers g c =
-    so_told g.D.Holder.bytes c.args.ledger.now c.unsnapshot.new.self c.args.chore.now _ (reply_of c.left_told.result) (number_reply c.unsnapshot.result) c.in-Unsnap.is c.left_told.ensures
-    (c.unsnapshot.ensures.answers 0)
+    subst (λ k. AnswersSaid g.D.Holder.bytes 0 (said_by k) c.args.ledger.now (reply_of c.unsnapped.result) c.unsnapped.new.ledger) (sym c.in-Unsnap.is) c.unsnapped.ensures
 
 pub returns-in-Unsnap-clause-sets : goal.returns-in-Unsnap-clause-sets
 returns-in-Unsnap-clause-sets g c = inl (λ s k. k, λ n b. b)
