@@ -33,7 +33,7 @@ pub trait Caller<D: Directory + Shelf, J: Naming, R>: Drop {
 }
 
 /// Why sessions weren't run to their ends. Those that had begun have ended, and their passes are gone.
-#[derive(Clone, Copy, Debug, PartialEq, Eq)]
+#[derive(Clone, Copy)]
 pub enum NotRun {
     /// A thread couldn't be started.
     Thread,
