@@ -7,4 +7,5 @@ mod steps;
 
 pub use cell::{Cell, Noting, Seat, new_cell};
 pub use sight::Sight;
+pub(crate) use steps::part_into;
 pub use steps::{join, look, meet, note, part, record, seat};

@@ -33,6 +33,15 @@ pub fn part(cell: &Cell, desk: &mut Seat) -> Seat
     rule::split::<Parts>(cell, desk)
 }
 
+/// The joined pass comes apart, and the caller's goes where it stood. So a call on the ledger lets no pass go.
+pub(crate) fn part_into(cell: &Cell, desk: &mut Seat, mine: &mut Seat)
+    requires { (desk.old.table_id ≡ cell.now.table.shared.table_id) × (cell_view desk.old ≡ scribe (cell_view desk.old).list (cell_view desk.old).token (cell_view desk.old).seated (cell_view desk.old).own) }
+    ensures desk { (desk.new.table_id ≡ desk.old.table_id) × (cell_view desk.new ≡ scribe (cell_view desk.old).list (cell_view desk.old).token (cell_view desk.old).seated []) }
+    ensures mine { (mine.new.table_id ≡ desk.old.table_id) × (cell_view mine.new ≡ caller (cell_view desk.old).list (cell_view desk.old).token (cell_view desk.old).own) }
+{
+    *mine = part(cell, desk);
+}
+
 /// The list gets the write that the call picks.
 pub fn note<W: Noting, R: Wait>(rt: &R, cell: &Cell, desk: &mut Seat, count: u64, token: u64)
     requires desk { (desk.old.table_id ≡ cell.now.table.shared.table_id) × (cell_view desk.old ≡ scribe (cell_view desk.old).list (cell_view desk.old).token (cell_view desk.old).seated (cell_view desk.old).own) }

@@ -139,11 +139,11 @@ impl<D: Directory + Shelf, J: Naming> Desk<D, J> {
         match accept(&mut self.ledger, write) {
             Ok(number) => {
                 note_number::<W, R>(rt, cell, &mut self.scribe, self.start, self.newest, number);
-                me.seat = history::part(cell, &mut self.scribe);
+                history::part_into(cell, &mut self.scribe, &mut me.seat);
                 Ok(number)
             }
             Err(refusal) => {
-                me.seat = history::part(cell, &mut self.scribe);
+                history::part_into(cell, &mut self.scribe, &mut me.seat);
                 Err(refusal)
             }
         }
@@ -170,11 +170,11 @@ impl<D: Directory + Shelf, J: Naming> Desk<D, J> {
             Ok(token) => {
                 let start = self.start;
                 record_token(rt, cell, &mut self.scribe, &mut self.newest, start, token);
-                me.seat = history::part(cell, &mut self.scribe);
+                history::part_into(cell, &mut self.scribe, &mut me.seat);
                 Ok(token)
             }
             Err(refusal) => {
-                me.seat = history::part(cell, &mut self.scribe);
+                history::part_into(cell, &mut self.scribe, &mut me.seat);
                 Err(refusal)
             }
         }
@@ -200,7 +200,7 @@ impl<D: Directory + Shelf, J: Naming> Desk<D, J> {
         let session = me.session;
         history::join(rt, cell, &mut self.scribe, &mut me.seat);
         let result = self.ledger.acquire(session, token);
-        me.seat = history::part(cell, &mut self.scribe);
+        history::part_into(cell, &mut self.scribe, &mut me.seat);
         result
     }
 
@@ -224,7 +224,7 @@ impl<D: Directory + Shelf, J: Naming> Desk<D, J> {
     {
         history::join(rt, cell, &mut self.scribe, &mut me.seat);
         let result = prepare(&self.ledger, &mut self.filters, me.session, token, query);
-        me.seat = history::part(cell, &mut self.scribe);
+        history::part_into(cell, &mut self.scribe, &mut me.seat);
         result
     }
 

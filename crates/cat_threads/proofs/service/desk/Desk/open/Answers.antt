@@ -23,8 +23,8 @@ join-requires-clause-desk g c = (c.self.invariant.0 ∙ sym c.requires, scribe_a
 pub join-requires-clause-mine : goal.join-requires-clause-mine
 join-requires-clause-mine g c = (c.me.invariant.0 ∙ sym c.requires, ap (λ (x : Sight). x.scribe) c.me.invariant.1)
 
-pub part-requires : goal.part-requires
-part-requires g c =
+pub part_into-requires : goal.part_into-requires
+part_into-requires g c =
     let v = cell_view c.self.inside.scribe in
     let j = c.join.ensures.desk in
     (j.0 ∙ (c.self.invariant.0 ∙ sym c.requires), scribe_own (cell_view c.join.new.desk) v.list v.token v.seated (cell_view c.me.inside.seat).own j.1)
@@ -32,17 +32,17 @@ part-requires g c =
 pub invariant_of-me : goal.invariant_of-me
 invariant_of-me g c =
     let j = c.join.ensures.desk in
-    let p = c.part.ensures.mine in
-    (p.0 ∙ (j.0 ∙ c.self.invariant.0), caller_apart c.me.inside.session (cell_view c.self.inside.scribe) (cell_view c.join.new.desk) (cell_view c.me.inside.seat) (cell_view c.part.result) c.me.invariant.1 j.1 p.1)
+    let p = c.part_into.ensures.mine in
+    (p.0 ∙ (j.0 ∙ c.self.invariant.0), caller_apart c.me.inside.session (cell_view c.self.inside.scribe) (cell_view c.join.new.desk) (cell_view c.me.inside.seat) (cell_view c.part_into.new.mine) c.me.invariant.1 j.1 p.1)
 
 pub invariant_of-self : goal.invariant_of-self
 invariant_of-self g c =
     let i = c.self.invariant in
     let a = i.3 in
     let j = c.join.ensures.desk in
-    let p = c.part.ensures.desk in
+    let p = c.part_into.ensures.desk in
     let v = cell_view c.self.inside.scribe in
-    let w = cell_view c.part.new.desk in
+    let w = cell_view c.part_into.new.desk in
     let from = g.J.Naming.from in
     let sessions = g.J.Naming.sessions in
     let e = c.acquire-result.ensures in
@@ -59,11 +59,11 @@ pub returns-clause-given : goal.returns-clause-given
 returns-clause-given g c =
     let i = c.self.invariant in
     let j = c.join.ensures in
-    let p = c.part.ensures.mine in
+    let p = c.part_into.ensures.mine in
     let e = c.acquire-result.ensures in
     let old = c.self.inside.ledger in
     granted_all (g.D.Holder.bytes (device_in old)) (shape_in old) g.J.Naming.from g.J.Naming.sessions (cell_view c.self.inside.scribe)
-    c.me.inside.session (cell_view c.me.inside.seat) (cell_view c.join.new.desk) (cell_view c.part.result) c.args.me.now c.args.token c.acquire-result.result
+    c.me.inside.session (cell_view c.me.inside.seat) (cell_view c.join.new.desk) (cell_view c.part_into.new.mine) c.args.me.now c.args.token c.acquire-result.result
     i.3 c.me.view_is j.seen (ap (λ (x : Sight). x.token) j.desk.1) (ap (λ (x : Sight). x.list) p.1 ∙ ap (λ (x : Sight). x.list) j.desk.1) e.asked e.grant
 
 not_gone : (s : Shape) (asked : Option ℕ) (r : Result Grant Refusal) → IfErr r (λ e. e ≡ Gone → (t : ℕ) → IsAsked s asked t → ⊥) → IfErr r (λ e. asked ≡ None → e ≢ Gone)
@@ -74,21 +74,21 @@ pub returns-clause-gone : goal.returns-clause-gone
 returns-clause-gone g c = not_gone (shape_in c.self.inside.ledger) c.args.token c.acquire-result.result c.acquire-result.ensures.gone
 
 pub returns-clause-told : goal.returns-clause-told
-returns-clause-told g c = told_apart g.J.Naming.from.start.token (cell_view c.join.new.desk) (cell_view c.part.new.desk) (cell_view c.part.result) c.part.ensures.desk.1 c.part.ensures.mine.1
+returns-clause-told g c = told_apart g.J.Naming.from.start.token (cell_view c.join.new.desk) (cell_view c.part_into.new.desk) (cell_view c.part_into.new.mine) c.part_into.ensures.desk.1 c.part_into.ensures.mine.1
 
 pub returns-clause-same : goal.returns-clause-same
-returns-clause-same g c = same_apart g.J.Naming.from.start.token (cell_view c.self.inside.scribe) (cell_view c.join.new.desk) (cell_view c.part.new.desk) (cell_view c.me.inside.seat).own c.args.self.now c.self.view_is c.join.ensures.desk.1 c.part.ensures.desk.1
+returns-clause-same g c = same_apart g.J.Naming.from.start.token (cell_view c.self.inside.scribe) (cell_view c.join.new.desk) (cell_view c.part_into.new.desk) (cell_view c.me.inside.seat).own c.args.self.now c.self.view_is c.join.ensures.desk.1 c.part_into.ensures.desk.1
 
 pub returns-clause-seen : goal.returns-clause-seen
 returns-clause-seen g c =
-    let p = c.part.ensures.mine.1 in
-    follows_joined g.J.Naming.from.start.token c.me.inside.session (cell_view c.me.inside.seat) (cell_view c.join.new.desk) (cell_view c.part.result) c.args.me.now c.me.view_is c.join.ensures.seen
+    let p = c.part_into.ensures.mine.1 in
+    follows_joined g.J.Naming.from.start.token c.me.inside.session (cell_view c.me.inside.seat) (cell_view c.join.new.desk) (cell_view c.part_into.new.mine) c.args.me.now c.me.view_is c.join.ensures.seen
     (ap (λ (x : Sight). x.list) p) (ap (λ (x : Sight). x.token) p)
 
 pub returns-clause-idle : goal.returns-clause-idle
 returns-clause-idle g c =
-    idle_told g.J.Naming.from.start.token c.me.inside.session (cell_view c.me.inside.seat) (cell_view c.join.new.desk) (cell_view c.part.result) c.args.me.now c.me.view_is c.join.ensures.seen c.me.invariant.1
-    (ap (λ (x : Sight). x.list) c.part.ensures.mine.1)
+    idle_told g.J.Naming.from.start.token c.me.inside.session (cell_view c.me.inside.seat) (cell_view c.join.new.desk) (cell_view c.part_into.new.mine) c.args.me.now c.me.view_is c.join.ensures.seen c.me.invariant.1
+    (ap (λ (x : Sight). x.list) c.part_into.ensures.mine.1)
 
 pub returns-clause-refusal : goal.returns-clause-refusal
 returns-clause-refusal g c = c.acquire-result.ensures.refusal

@@ -42,8 +42,8 @@ record_token-requires-clause-rises g c =
     let top = ap (λ (x : Sight). x.token) c.join.ensures.desk.1 in
     omega arith
 
-pub part-requires : goal.part-requires
-part-requires g c =
+pub part_into-requires : goal.part_into-requires
+part_into-requires g c =
     let v = cell_view c.self.inside.scribe in
     let t = c.in-Ok.token - c.self.inside.start in
     let j = c.join.ensures.desk in
@@ -52,8 +52,8 @@ part-requires g c =
       scribe_own (cell_view c.record_token.new.scribe) v.list t v.seated (cell_view c.me.inside.seat).own (n.1 ∙ ap (λ (x : Sight). recorded t x) j.1),
     )
 
-pub part-requires-in-Err : goal.part-requires-in-Err
-part-requires-in-Err g c =
+pub part_into-requires-in-Err : goal.part_into-requires-in-Err
+part_into-requires-in-Err g c =
     let v = cell_view c.self.inside.scribe in
     let j = c.join.ensures.desk in
     (j.0 ∙ (c.self.invariant.0 ∙ sym c.requires), scribe_own (cell_view c.join.new.desk) v.list v.token v.seated (cell_view c.me.inside.seat).own j.1)
@@ -62,17 +62,17 @@ pub invariant_of-me : goal.invariant_of-me
 invariant_of-me g c =
     let j = c.join.ensures.desk in
     let n = c.record_token.ensures.scribe in
-    let p = c.part.ensures.mine in (
+    let p = c.part_into.ensures.mine in (
       p.0 ∙ (n.0 ∙ (j.0 ∙ c.self.invariant.0)),
-      caller_behind c.me.inside.session (cell_view c.self.inside.scribe) (cell_view c.join.new.desk) (cell_view c.record_token.new.scribe) (cell_view c.me.inside.seat) (cell_view c.part.result) c.me.invariant.1 j.1
+      caller_behind c.me.inside.session (cell_view c.self.inside.scribe) (cell_view c.join.new.desk) (cell_view c.record_token.new.scribe) (cell_view c.me.inside.seat) (cell_view c.part_into.new.mine) c.me.invariant.1 j.1
           (ap (λ (x : Sight). x.own) n.1) p.1,
     )
 
 pub invariant_of-me-in-Err : goal.invariant_of-me-in-Err
 invariant_of-me-in-Err g c =
     let j = c.join.ensures.desk in
-    let p = c.part-in-Err.ensures.mine in
-    (p.0 ∙ (j.0 ∙ c.self.invariant.0), caller_apart c.me.inside.session (cell_view c.self.inside.scribe) (cell_view c.join.new.desk) (cell_view c.me.inside.seat) (cell_view c.part-in-Err.result) c.me.invariant.1 j.1 p.1)
+    let p = c.part_into-in-Err.ensures.mine in
+    (p.0 ∙ (j.0 ∙ c.self.invariant.0), caller_apart c.me.inside.session (cell_view c.self.inside.scribe) (cell_view c.join.new.desk) (cell_view c.me.inside.seat) (cell_view c.part_into-in-Err.new.mine) c.me.invariant.1 j.1 p.1)
 
 pub invariant_of-self : goal.invariant_of-self
 invariant_of-self g c =
@@ -80,9 +80,9 @@ invariant_of-self g c =
     let a = i.3 in
     let j = c.join.ensures.desk in
     let n = c.record_token.ensures.scribe in
-    let p = c.part.ensures.desk in
+    let p = c.part_into.ensures.desk in
     let v = cell_view c.self.inside.scribe in
-    let w = cell_view c.part.new.desk in
+    let w = cell_view c.part_into.new.desk in
     let old = c.self.inside.ledger in
     let new = c.refresh.new.self in
     let bytes = g.D.Holder.bytes in
@@ -108,9 +108,9 @@ invariant_of-self-in-Err g c =
     let i = c.self.invariant in
     let a = i.3 in
     let j = c.join.ensures.desk in
-    let p = c.part-in-Err.ensures.desk in
+    let p = c.part_into-in-Err.ensures.desk in
     let v = cell_view c.self.inside.scribe in
-    let w = cell_view c.part-in-Err.new.desk in
+    let w = cell_view c.part_into-in-Err.new.desk in
     let from = g.J.Naming.from in
     let sessions = g.J.Naming.sessions in
     let is : w ≡ scribe v.list v.token sessions [] =
@@ -126,7 +126,7 @@ pub returns-in-Ok-clause-seen : goal.returns-in-Ok-clause-seen
 returns-in-Ok-clause-seen g c =
     let j = c.join.ensures in
     let n = c.record_token.ensures.scribe in
-    let p = c.part.ensures.mine in
+    let p = c.part_into.ensures.mine in
     let v = cell_view c.self.inside.scribe in
     let old = c.self.inside.ledger in
     let i = c.self.invariant in
@@ -136,58 +136,58 @@ returns-in-Ok-clause-seen g c =
     let top = ap (λ (x : Sight). x.token) j.desk.1 in
     let start = i.1 in
     let is = c.in-Ok.ensures.token in
-    let token : (cell_view c.part.result).token ≡ c.in-Ok.token - c.self.inside.start = ap (λ (x : Sight). x.token) p.1 ∙ ap (λ (x : Sight). x.token) n.1 in
-    follows_told g.J.Naming.from.start.token c.me.inside.session (cell_view c.me.inside.seat) (cell_view c.join.new.desk) (cell_view c.part.result) c.args.me.now c.me.view_is j.seen
+    let token : (cell_view c.part_into.new.mine).token ≡ c.in-Ok.token - c.self.inside.start = ap (λ (x : Sight). x.token) p.1 ∙ ap (λ (x : Sight). x.token) n.1 in
+    follows_told g.J.Naming.from.start.token c.me.inside.session (cell_view c.me.inside.seat) (cell_view c.join.new.desk) (cell_view c.part_into.new.mine) c.args.me.now c.me.view_is j.seen
     (ap (λ (x : Sight). x.list) p.1 ∙ ap (λ (x : Sight). x.list) n.1) (omega arith)
 
 pub returns-in-Ok-clause-told : goal.returns-in-Ok-clause-told
-returns-in-Ok-clause-told g c = told_apart g.J.Naming.from.start.token (cell_view c.record_token.new.scribe) (cell_view c.part.new.desk) (cell_view c.part.result) c.part.ensures.desk.1 c.part.ensures.mine.1
+returns-in-Ok-clause-told g c = told_apart g.J.Naming.from.start.token (cell_view c.record_token.new.scribe) (cell_view c.part_into.new.desk) (cell_view c.part_into.new.mine) c.part_into.ensures.desk.1 c.part_into.ensures.mine.1
 
 pub returns-in-Ok-clause-list : goal.returns-in-Ok-clause-list
-returns-in-Ok-clause-list g c = recorded_list g.J.Naming.from.start.token (c.in-Ok.token - c.self.inside.start) (cell_view c.self.inside.scribe) (cell_view c.join.new.desk) (cell_view c.record_token.new.scribe) (cell_view c.part.new.desk) (cell_view c.me.inside.seat).own c.args.self.now c.self.view_is c.join.ensures.desk.1 c.record_token.ensures.scribe.1 c.part.ensures.desk.1
+returns-in-Ok-clause-list g c = recorded_list g.J.Naming.from.start.token (c.in-Ok.token - c.self.inside.start) (cell_view c.self.inside.scribe) (cell_view c.join.new.desk) (cell_view c.record_token.new.scribe) (cell_view c.part_into.new.desk) (cell_view c.me.inside.seat).own c.args.self.now c.self.view_is c.join.ensures.desk.1 c.record_token.ensures.scribe.1 c.part_into.ensures.desk.1
 
 pub returns-in-Ok-clause-same : goal.returns-in-Ok-clause-same
 returns-in-Ok-clause-same g c = tt
 
 pub returns-in-Ok-clause-idle : goal.returns-in-Ok-clause-idle
 returns-in-Ok-clause-idle g c =
-    idle_told g.J.Naming.from.start.token c.me.inside.session (cell_view c.me.inside.seat) (cell_view c.join.new.desk) (cell_view c.part.result) c.args.me.now c.me.view_is c.join.ensures.seen c.me.invariant.1
-    (ap (λ (x : Sight). x.list) c.part.ensures.mine.1 ∙ ap (λ (x : Sight). x.list) c.record_token.ensures.scribe.1)
+    idle_told g.J.Naming.from.start.token c.me.inside.session (cell_view c.me.inside.seat) (cell_view c.join.new.desk) (cell_view c.part_into.new.mine) c.args.me.now c.me.view_is c.join.ensures.seen c.me.invariant.1
+    (ap (λ (x : Sight). x.list) c.part_into.ensures.mine.1 ∙ ap (λ (x : Sight). x.list) c.record_token.ensures.scribe.1)
 
 pub returns-in-Ok-clause-token : goal.returns-in-Ok-clause-token
 returns-in-Ok-clause-token g c =
     let i = c.self.invariant in
     let old = c.self.inside.ledger in
     let n = c.record_token.ensures.scribe.1 in
-    let p = c.part.ensures.mine.1 in
+    let p = c.part_into.ensures.mine.1 in
     let all = counts_share (g.D.Holder.bytes (device_in old)) (shape_in old) g.J.Naming.from g.J.Naming.sessions (cell_view c.self.inside.scribe) i.3 in
     let long = ap (λ (x : Sight). length x.list) c.join.ensures.desk.1 in
     let is = c.in-Ok.ensures.token in
-    refreshed_told g.J.Naming.from.start.token c.me.inside.session c.in-Ok.token (cell_view c.me.inside.seat) (cell_view c.join.new.desk) (cell_view c.part.result) c.args.me.now c.me.view_is c.join.ensures.seen (omega arith)
+    refreshed_told g.J.Naming.from.start.token c.me.inside.session c.in-Ok.token (cell_view c.me.inside.seat) (cell_view c.join.new.desk) (cell_view c.part_into.new.mine) c.args.me.now c.me.view_is c.join.ensures.seen (omega arith)
     (ap (λ (x : Sight). x.list) p ∙ ap (λ (x : Sight). x.list) n) (ap (λ (x : Sight). x.token) p ∙ (ap (λ (x : Sight). x.token) n ∙ ap (λ (k : ℕ). c.in-Ok.token - k) i.1))
 
 pub returns-in-Ok-clause-refusal : goal.returns-in-Ok-clause-refusal
 returns-in-Ok-clause-refusal g c = tt
 
 pub returns-in-Err-clause-told : goal.returns-in-Err-clause-told
-returns-in-Err-clause-told g c = told_apart g.J.Naming.from.start.token (cell_view c.join.new.desk) (cell_view c.part-in-Err.new.desk) (cell_view c.part-in-Err.result) c.part-in-Err.ensures.desk.1 c.part-in-Err.ensures.mine.1
+returns-in-Err-clause-told g c = told_apart g.J.Naming.from.start.token (cell_view c.join.new.desk) (cell_view c.part_into-in-Err.new.desk) (cell_view c.part_into-in-Err.new.mine) c.part_into-in-Err.ensures.desk.1 c.part_into-in-Err.ensures.mine.1
 
 pub returns-in-Err-clause-list : goal.returns-in-Err-clause-list
-returns-in-Err-clause-list g c = (same_apart g.J.Naming.from.start.token (cell_view c.self.inside.scribe) (cell_view c.join.new.desk) (cell_view c.part-in-Err.new.desk) (cell_view c.me.inside.seat).own c.args.self.now c.self.view_is c.join.ensures.desk.1 c.part-in-Err.ensures.desk.1).0
+returns-in-Err-clause-list g c = (same_apart g.J.Naming.from.start.token (cell_view c.self.inside.scribe) (cell_view c.join.new.desk) (cell_view c.part_into-in-Err.new.desk) (cell_view c.me.inside.seat).own c.args.self.now c.self.view_is c.join.ensures.desk.1 c.part_into-in-Err.ensures.desk.1).0
 
 pub returns-in-Err-clause-same : goal.returns-in-Err-clause-same
-returns-in-Err-clause-same g c = (same_apart g.J.Naming.from.start.token (cell_view c.self.inside.scribe) (cell_view c.join.new.desk) (cell_view c.part-in-Err.new.desk) (cell_view c.me.inside.seat).own c.args.self.now c.self.view_is c.join.ensures.desk.1 c.part-in-Err.ensures.desk.1).1
+returns-in-Err-clause-same g c = (same_apart g.J.Naming.from.start.token (cell_view c.self.inside.scribe) (cell_view c.join.new.desk) (cell_view c.part_into-in-Err.new.desk) (cell_view c.me.inside.seat).own c.args.self.now c.self.view_is c.join.ensures.desk.1 c.part_into-in-Err.ensures.desk.1).1
 
 pub returns-in-Err-clause-seen : goal.returns-in-Err-clause-seen
 returns-in-Err-clause-seen g c =
-    let p = c.part-in-Err.ensures.mine.1 in
-    follows_joined g.J.Naming.from.start.token c.me.inside.session (cell_view c.me.inside.seat) (cell_view c.join.new.desk) (cell_view c.part-in-Err.result) c.args.me.now c.me.view_is c.join.ensures.seen
+    let p = c.part_into-in-Err.ensures.mine.1 in
+    follows_joined g.J.Naming.from.start.token c.me.inside.session (cell_view c.me.inside.seat) (cell_view c.join.new.desk) (cell_view c.part_into-in-Err.new.mine) c.args.me.now c.me.view_is c.join.ensures.seen
     (ap (λ (x : Sight). x.list) p) (ap (λ (x : Sight). x.token) p)
 
 pub returns-in-Err-clause-idle : goal.returns-in-Err-clause-idle
 returns-in-Err-clause-idle g c =
-    idle_told g.J.Naming.from.start.token c.me.inside.session (cell_view c.me.inside.seat) (cell_view c.join.new.desk) (cell_view c.part-in-Err.result) c.args.me.now c.me.view_is c.join.ensures.seen c.me.invariant.1
-    (ap (λ (x : Sight). x.list) c.part-in-Err.ensures.mine.1)
+    idle_told g.J.Naming.from.start.token c.me.inside.session (cell_view c.me.inside.seat) (cell_view c.join.new.desk) (cell_view c.part_into-in-Err.new.mine) c.args.me.now c.me.view_is c.join.ensures.seen c.me.invariant.1
+    (ap (λ (x : Sight). x.list) c.part_into-in-Err.ensures.mine.1)
 
 pub returns-in-Err-clause-token : goal.returns-in-Err-clause-token
 returns-in-Err-clause-token g c = tt

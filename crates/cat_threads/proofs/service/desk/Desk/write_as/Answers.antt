@@ -39,8 +39,8 @@ note_number-requires-clause-own g c =
     ∙ (ap (λ (x : Sight). has_session session x.own) c.me.invariant.1
     ∙ (ap (λ (s : ℕ). has_session s (c.me.inside.session ∷ [])) same ∙ has_self c.me.inside.session)))
 
-pub part-requires : goal.part-requires
-part-requires g c =
+pub part_into-requires : goal.part_into-requires
+part_into-requires g c =
     let v = cell_view c.self.inside.scribe in
     let e = g.W.Noting.entry in
     let j = c.join.ensures.desk in
@@ -49,8 +49,8 @@ part-requires g c =
       scribe_own (cell_view c.note_number.new.scribe) (v.list ++ e ∷ []) v.token v.seated (cell_view c.me.inside.seat).own (n.1 ∙ ap (λ (x : Sight). noted e x) j.1),
     )
 
-pub part-requires-in-Err : goal.part-requires-in-Err
-part-requires-in-Err g c =
+pub part_into-requires-in-Err : goal.part_into-requires-in-Err
+part_into-requires-in-Err g c =
     let v = cell_view c.self.inside.scribe in
     let j = c.join.ensures.desk in
     (j.0 ∙ (c.self.invariant.0 ∙ sym c.requires.cell), scribe_own (cell_view c.join.new.desk) v.list v.token v.seated (cell_view c.me.inside.seat).own j.1)
@@ -59,17 +59,17 @@ pub invariant_of-me : goal.invariant_of-me
 invariant_of-me g c =
     let j = c.join.ensures.desk in
     let n = c.note_number.ensures in
-    let p = c.part.ensures.mine in (
+    let p = c.part_into.ensures.mine in (
       p.0 ∙ (n.0 ∙ (j.0 ∙ c.self.invariant.0)),
-      caller_behind c.me.inside.session (cell_view c.self.inside.scribe) (cell_view c.join.new.desk) (cell_view c.note_number.new.scribe) (cell_view c.me.inside.seat) (cell_view c.part.result) c.me.invariant.1 j.1
+      caller_behind c.me.inside.session (cell_view c.self.inside.scribe) (cell_view c.join.new.desk) (cell_view c.note_number.new.scribe) (cell_view c.me.inside.seat) (cell_view c.part_into.new.mine) c.me.invariant.1 j.1
           (ap (λ (x : Sight). x.own) n.1) p.1,
     )
 
 pub invariant_of-me-in-Err : goal.invariant_of-me-in-Err
 invariant_of-me-in-Err g c =
     let j = c.join.ensures.desk in
-    let p = c.part-in-Err.ensures.mine in
-    (p.0 ∙ (j.0 ∙ c.self.invariant.0), caller_apart c.me.inside.session (cell_view c.self.inside.scribe) (cell_view c.join.new.desk) (cell_view c.me.inside.seat) (cell_view c.part-in-Err.result) c.me.invariant.1 j.1 p.1)
+    let p = c.part_into-in-Err.ensures.mine in
+    (p.0 ∙ (j.0 ∙ c.self.invariant.0), caller_apart c.me.inside.session (cell_view c.self.inside.scribe) (cell_view c.join.new.desk) (cell_view c.me.inside.seat) (cell_view c.part_into-in-Err.new.mine) c.me.invariant.1 j.1 p.1)
 
 pub invariant_of-self : goal.invariant_of-self
 invariant_of-self g c =
@@ -77,9 +77,9 @@ invariant_of-self g c =
     let a = i.3 in
     let j = c.join.ensures.desk in
     let n = c.note_number.ensures in
-    let p = c.part.ensures.desk in
+    let p = c.part_into.ensures.desk in
     let v = cell_view c.self.inside.scribe in
-    let w = cell_view c.part.new.desk in
+    let w = cell_view c.part_into.new.desk in
     let old = c.self.inside.ledger in
     let new = c.accept.new.ledger in
     let bytes = g.D.Holder.bytes in
@@ -103,9 +103,9 @@ invariant_of-self-in-Err g c =
     let i = c.self.invariant in
     let a = i.3 in
     let j = c.join.ensures.desk in
-    let p = c.part-in-Err.ensures.desk in
+    let p = c.part_into-in-Err.ensures.desk in
     let v = cell_view c.self.inside.scribe in
-    let w = cell_view c.part-in-Err.new.desk in
+    let w = cell_view c.part_into-in-Err.new.desk in
     let old = c.self.inside.ledger in
     let new = c.accept.new.ledger in
     let bytes = g.D.Holder.bytes in
@@ -127,15 +127,15 @@ pub returns-in-Ok-clause-seen : goal.returns-in-Ok-clause-seen
 returns-in-Ok-clause-seen g c =
     let j = c.join.ensures in
     let n = c.note_number.ensures in
-    let p = c.part.ensures.mine in
-    follows_noted g.J.Naming.from.start.token c.me.inside.session (cell_view c.me.inside.seat) (cell_view c.join.new.desk) (cell_view c.part.result) g.W.Noting.entry c.args.me.now c.me.view_is j.seen
+    let p = c.part_into.ensures.mine in
+    follows_noted g.J.Naming.from.start.token c.me.inside.session (cell_view c.me.inside.seat) (cell_view c.join.new.desk) (cell_view c.part_into.new.mine) g.W.Noting.entry c.args.me.now c.me.view_is j.seen
     (ap (λ (v : Sight). v.list) p.1 ∙ ap (λ (v : Sight). v.list) n.1) (ap (λ (v : Sight). v.token) p.1 ∙ ap (λ (v : Sight). v.token) n.1)
 
 pub returns-in-Ok-clause-wrote : goal.returns-in-Ok-clause-wrote
 returns-in-Ok-clause-wrote g c =
     let j = c.join.ensures in
     let n = c.note_number.ensures in
-    let p = c.part.ensures.mine in
+    let p = c.part_into.ensures.mine in
     let start = g.J.Naming.from.start.token in
     let session = c.me.inside.session in
     let write = write_of c.args.write in
@@ -146,7 +146,7 @@ returns-in-Ok-clause-wrote g c =
     let counted = counts_share (g.D.Holder.bytes (device_in old)) (shape_in old) g.J.Naming.from g.J.Naming.sessions v c.self.invariant.3 in
     let long : length joined.list ≡ length v.list = ap (λ (x : Sight). length x.list) j.desk.1 in
     let number = c.in-Ok.ensures.number in
-    wrote_noted start session c.in-Ok.number write (cell_view c.me.inside.seat) joined (cell_view c.part.result) c.args.me.now c.me.view_is j.seen
+    wrote_noted start session c.in-Ok.number write (cell_view c.me.inside.seat) joined (cell_view c.part_into.new.mine) c.args.me.now c.me.view_is j.seen
     (ap (λ (x : Sight). has_session session x.own) c.me.invariant.1 ∙ has_self session)
     (omega arith)
     (ap (λ (x : Sight). x.list) p.1 ∙ ap (λ (x : Sight). x.list) n.1 ∙ ap (λ (e : LogEntry). joined.list ++ e ∷ []) named)
@@ -158,19 +158,19 @@ returns-in-Err-clause-kind g c =
     λ is. subst (λ s. PutsForeign s (write_of c.args.write)) same (c.in-Err.ensures.kind is)
 
 pub returns-in-Ok-clause-told : goal.returns-in-Ok-clause-told
-returns-in-Ok-clause-told g c = told_apart g.J.Naming.from.start.token (cell_view c.note_number.new.scribe) (cell_view c.part.new.desk) (cell_view c.part.result) c.part.ensures.desk.1 c.part.ensures.mine.1
+returns-in-Ok-clause-told g c = told_apart g.J.Naming.from.start.token (cell_view c.note_number.new.scribe) (cell_view c.part_into.new.desk) (cell_view c.part_into.new.mine) c.part_into.ensures.desk.1 c.part_into.ensures.mine.1
 
 pub returns-in-Ok-clause-list : goal.returns-in-Ok-clause-list
 returns-in-Ok-clause-list g c =
     let old = c.self.inside.ledger in
     let all = counts_share (g.D.Holder.bytes (device_in old)) (shape_in old) g.J.Naming.from g.J.Naming.sessions (cell_view c.self.inside.scribe) c.self.invariant.3 in
-    noted_apart g.J.Naming.from.start.token c.in-Ok.number (shape_in old).count (cell_view c.self.inside.scribe) (cell_view c.join.new.desk) (cell_view c.note_number.new.scribe) (cell_view c.part.new.desk) (cell_view c.me.inside.seat).own g.W.Noting.entry c.args.self.now c.self.view_is c.join.ensures.desk.1 c.note_number.ensures.1 c.part.ensures.desk.1 c.in-Ok.ensures.number all
+    noted_apart g.J.Naming.from.start.token c.in-Ok.number (shape_in old).count (cell_view c.self.inside.scribe) (cell_view c.join.new.desk) (cell_view c.note_number.new.scribe) (cell_view c.part_into.new.desk) (cell_view c.me.inside.seat).own g.W.Noting.entry c.args.self.now c.self.view_is c.join.ensures.desk.1 c.note_number.ensures.1 c.part_into.ensures.desk.1 c.in-Ok.ensures.number all
 
 pub returns-in-Ok-clause-same : goal.returns-in-Ok-clause-same
 returns-in-Ok-clause-same g c = tt
 
 pub returns-in-Ok-clause-token : goal.returns-in-Ok-clause-token
-returns-in-Ok-clause-token g c = noted_token g.J.Naming.from.start.token (cell_view c.self.inside.scribe) (cell_view c.join.new.desk) (cell_view c.note_number.new.scribe) (cell_view c.part.new.desk) (cell_view c.me.inside.seat).own g.W.Noting.entry c.args.self.now c.self.view_is c.join.ensures.desk.1 c.note_number.ensures.1 c.part.ensures.desk.1
+returns-in-Ok-clause-token g c = noted_token g.J.Naming.from.start.token (cell_view c.self.inside.scribe) (cell_view c.join.new.desk) (cell_view c.note_number.new.scribe) (cell_view c.part_into.new.desk) (cell_view c.me.inside.seat).own g.W.Noting.entry c.args.self.now c.self.view_is c.join.ensures.desk.1 c.note_number.ensures.1 c.part_into.ensures.desk.1
 
 pub returns-in-Ok-clause-idle : goal.returns-in-Ok-clause-idle
 returns-in-Ok-clause-idle g c = tt
@@ -182,21 +182,21 @@ pub returns-in-Ok-clause-refusal : goal.returns-in-Ok-clause-refusal
 returns-in-Ok-clause-refusal g c = tt
 
 pub returns-in-Err-clause-told : goal.returns-in-Err-clause-told
-returns-in-Err-clause-told g c = told_apart g.J.Naming.from.start.token (cell_view c.join.new.desk) (cell_view c.part-in-Err.new.desk) (cell_view c.part-in-Err.result) c.part-in-Err.ensures.desk.1 c.part-in-Err.ensures.mine.1
+returns-in-Err-clause-told g c = told_apart g.J.Naming.from.start.token (cell_view c.join.new.desk) (cell_view c.part_into-in-Err.new.desk) (cell_view c.part_into-in-Err.new.mine) c.part_into-in-Err.ensures.desk.1 c.part_into-in-Err.ensures.mine.1
 
 pub returns-in-Err-clause-list : goal.returns-in-Err-clause-list
 returns-in-Err-clause-list g c = tt
 
 pub returns-in-Err-clause-same : goal.returns-in-Err-clause-same
-returns-in-Err-clause-same g c = (same_apart g.J.Naming.from.start.token (cell_view c.self.inside.scribe) (cell_view c.join.new.desk) (cell_view c.part-in-Err.new.desk) (cell_view c.me.inside.seat).own c.args.self.now c.self.view_is c.join.ensures.desk.1 c.part-in-Err.ensures.desk.1).0
+returns-in-Err-clause-same g c = (same_apart g.J.Naming.from.start.token (cell_view c.self.inside.scribe) (cell_view c.join.new.desk) (cell_view c.part_into-in-Err.new.desk) (cell_view c.me.inside.seat).own c.args.self.now c.self.view_is c.join.ensures.desk.1 c.part_into-in-Err.ensures.desk.1).0
 
 pub returns-in-Err-clause-token : goal.returns-in-Err-clause-token
-returns-in-Err-clause-token g c = (same_apart g.J.Naming.from.start.token (cell_view c.self.inside.scribe) (cell_view c.join.new.desk) (cell_view c.part-in-Err.new.desk) (cell_view c.me.inside.seat).own c.args.self.now c.self.view_is c.join.ensures.desk.1 c.part-in-Err.ensures.desk.1).1
+returns-in-Err-clause-token g c = (same_apart g.J.Naming.from.start.token (cell_view c.self.inside.scribe) (cell_view c.join.new.desk) (cell_view c.part_into-in-Err.new.desk) (cell_view c.me.inside.seat).own c.args.self.now c.self.view_is c.join.ensures.desk.1 c.part_into-in-Err.ensures.desk.1).1
 
 pub returns-in-Err-clause-seen : goal.returns-in-Err-clause-seen
 returns-in-Err-clause-seen g c =
-    let p = c.part-in-Err.ensures.mine.1 in
-    follows_joined g.J.Naming.from.start.token c.me.inside.session (cell_view c.me.inside.seat) (cell_view c.join.new.desk) (cell_view c.part-in-Err.result) c.args.me.now c.me.view_is c.join.ensures.seen
+    let p = c.part_into-in-Err.ensures.mine.1 in
+    follows_joined g.J.Naming.from.start.token c.me.inside.session (cell_view c.me.inside.seat) (cell_view c.join.new.desk) (cell_view c.part_into-in-Err.new.mine) c.args.me.now c.me.view_is c.join.ensures.seen
     (ap (λ (x : Sight). x.list) p) (ap (λ (x : Sight). x.token) p)
 
 pub returns-in-Err-clause-wrote : goal.returns-in-Err-clause-wrote
@@ -204,8 +204,8 @@ returns-in-Err-clause-wrote g c = tt
 
 pub returns-in-Err-clause-idle : goal.returns-in-Err-clause-idle
 returns-in-Err-clause-idle g c =
-    idle_told g.J.Naming.from.start.token c.me.inside.session (cell_view c.me.inside.seat) (cell_view c.join.new.desk) (cell_view c.part-in-Err.result) c.args.me.now c.me.view_is c.join.ensures.seen c.me.invariant.1
-    (ap (λ (x : Sight). x.list) c.part-in-Err.ensures.mine.1)
+    idle_told g.J.Naming.from.start.token c.me.inside.session (cell_view c.me.inside.seat) (cell_view c.join.new.desk) (cell_view c.part_into-in-Err.new.mine) c.args.me.now c.me.view_is c.join.ensures.seen c.me.invariant.1
+    (ap (λ (x : Sight). x.list) c.part_into-in-Err.ensures.mine.1)
 
 pub returns-in-Err-clause-refusal : goal.returns-in-Err-clause-refusal
 returns-in-Err-clause-refusal g c = c.in-Err.ensures.refusal
