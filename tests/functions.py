@@ -18,8 +18,9 @@ DECLARED = re.compile(r"(?m)^(?=(?:pub )?\S+ : )")
 
 # The files of a function's proof that a person writes, where its proof isn't all by hand.
 ANSWERS = ("Invariants.antt", "Answers.antt")
-# A body that is of every type, and calls nothing.
-NO_BODY = "loop {}"
+# A body that is of every type, and calls nothing. The borrow checker doesn't follow its pointer, so the prover makes no transition
+# system of the function, which is half of what one with `loop {}` alone costs it.
+NO_BODY = "let mut byte = 0u8; let place = &raw mut byte; unsafe { *place = 1; } loop {}"
 # Its proof: the prover then takes the function by its contract, where it is told to check past holes. Of a hole it prints the goal, and
 # that of a whole statement is long.
 NO_PROOF = """use Rattle.{crate}.proofs.{path}.Statement.{{statement}}
