@@ -175,7 +175,6 @@ impl fmt::Debug for Text {
 }
 
 /// A set of texts, each once. Contracts see it as the list of its texts in byte order.
-#[derive(Debug)]
 pub struct TextSet {
     texts: Vec<Text>,
 }

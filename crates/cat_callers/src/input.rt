@@ -48,7 +48,7 @@ impl Gathering {
 }
 
 /// What comes of an input.
-#[derive(Clone, Copy, Debug, PartialEq, Eq)]
+#[derive(Clone, Copy)]
 pub enum Next {
     /// A line.
     Line,

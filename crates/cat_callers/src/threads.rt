@@ -27,7 +27,7 @@ use std::thread::Threads;
 use std::time::{Clock, Duration};
 
 /// Why an input isn't answered to its end.
-#[derive(Clone, Copy, Debug, PartialEq, Eq)]
+#[derive(Clone, Copy)]
 pub enum Fault {
     /// The first line was refused, and that is all that was said.
     Schema,

@@ -5,7 +5,7 @@ use cat_commits::Leaf;
 use cat_directory::{FileName, Shelf};
 
 /// How many rows a commit has, dead ones too, and how many of them are live.
-#[derive(Clone, Copy, Debug, PartialEq, Eq, Drop)]
+#[derive(Clone, Copy, Drop)]
 pub struct Counts {
     pub rows: u64,
     pub live_rows: u64,

@@ -18,7 +18,7 @@ use cat_directory::{Directory, FileName, Shelf};
 use std::alloc::Global;
 
 /// How the newest commit of a directory stands.
-#[derive(Clone, Copy, Debug, PartialEq, Eq, Drop)]
+#[derive(Clone, Copy, Drop)]
 pub enum Standing {
     /// There is no commit.
     Empty,

@@ -4,7 +4,7 @@ use cat_directory::FileName;
 use std::fmt;
 
 /// A rule that a file of a commit breaks.
-#[derive(Clone, Copy, Debug, PartialEq, Eq, Drop)]
+#[derive(Clone, Copy, Drop)]
 pub enum Rule {
     /// The file isn't there.
     Absent,
@@ -71,7 +71,7 @@ impl fmt::Display for Rule {
 }
 
 /// A file of a commit, and a rule that it breaks.
-#[derive(Clone, Copy, Debug, PartialEq, Eq, Drop)]
+#[derive(Clone, Copy, Drop)]
 pub struct Fault {
     pub file: FileName,
     pub rule: Rule,

@@ -19,7 +19,7 @@ use cat_segment::cat_items::Schema;
 use std::alloc::{AllocError, Global};
 
 /// What is judged of a commit: what an opening at it answers, under the fields that its own file says. (Lucene: `CheckIndex.Status`.)
-#[derive(Debug, Drop)]
+#[derive(Drop)]
 pub enum Verdict {
     /// An opening reads it.
     Whole(Counts),

@@ -15,7 +15,6 @@ use std::sync::Arc;
 /// without the rows. Copies made by [`Dictionary::share`] hold the texts once.
 ///
 /// Contracts see it as the list of its texts.
-#[derive(Debug)]
 pub struct Dictionary {
     texts: Arc<TextSet>,
     // Where a text can be, by its hash. There are none where the dictionary is seldom asked.

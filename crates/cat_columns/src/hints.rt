@@ -7,7 +7,7 @@ use cat_base::Text;
 use std::alloc::{AllocError, Global};
 
 /// What is known of the texts whose hash leads to one slot.
-#[derive(Clone, Copy, Debug)]
+#[derive(Clone, Copy)]
 pub(crate) enum Hint {
     /// There is no such text.
     Empty,

@@ -18,7 +18,6 @@ use std::marker::Model;
 /// A keyword for each row, or none: Lucene's `SortedDocValues`.
 ///
 /// Contracts see it as the list of the rows' keywords.
-#[derive(Debug)]
 pub struct KeywordColumn {
     dictionary: Dictionary,
     /// 0 for a row without a keyword, else its ordinal plus 1.

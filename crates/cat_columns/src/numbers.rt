@@ -11,7 +11,6 @@ use std::marker::Model;
 /// A number for each row, or none: Lucene's `NumericDocValues`.
 ///
 /// Contracts see it as the list of the rows' numbers.
-#[derive(Debug)]
 pub struct NumberColumn {
     present: RowSet,
     /// 0 for a row without a number.

@@ -17,7 +17,6 @@ use std::marker::Model;
 /// A set of rows out of `len`, the rows of a segment, one bit for each: Lucene's `FixedBitSet`.
 ///
 /// Contracts see it as one truth value for each row.
-#[derive(Debug)]
 pub struct RowSet {
     len: usize,
     blocks: Vec<u64>,

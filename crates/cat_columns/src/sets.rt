@@ -20,7 +20,6 @@ use std::marker::Model;
 /// A set of labels for each row: Lucene's `SortedSetDocValues`.
 ///
 /// Contracts see it as the list of the rows' sets, each as the list of its labels in byte order.
-#[derive(Debug)]
 pub struct SetColumn {
     dictionary: Dictionary,
     /// Where each row's ordinals end.

@@ -6,7 +6,7 @@ use cat_items::Schema;
 use std::marker::Model;
 
 /// A version of the layout of a commit's file.
-#[derive(Clone, Copy, Debug, PartialEq, Eq, Drop)]
+#[derive(Clone, Copy, Drop)]
 pub enum Version {
     /// It has no text. It is read, and isn't written any more.
     First,
@@ -18,7 +18,7 @@ pub enum Version {
 ///
 /// Contracts see it as the record of its number and of the number of the commit that wrote its live rows, 0 where all are
 /// live.
-#[derive(Clone, Copy, Debug, PartialEq, Eq, Drop)]
+#[derive(Clone, Copy, Drop)]
 pub struct ListedSegment {
     number: SegNo,
     file: Generation,

@@ -7,7 +7,7 @@ use cat_base::Generation;
 
 /// The policy that keeps the newest commit, and each that has a snapshot. (Lucene: `KeepOnlyLastCommitDeletionPolicy` within a
 /// `SnapshotDeletionPolicy`.)
-#[derive(Clone, Copy, Debug, Drop)]
+#[derive(Clone, Copy, Drop)]
 pub struct KeepLast;
 
 impl KeepLast {

@@ -9,7 +9,7 @@ use cat_model::cat_base::Refusal;
 use std::alloc::Global;
 
 /// Which calls of a [`Faulty`] device fail.
-#[derive(Clone, Copy, Debug, PartialEq, Eq)]
+#[derive(Clone, Copy)]
 pub enum Faults {
     /// None.
     Never,

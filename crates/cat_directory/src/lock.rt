@@ -27,7 +27,7 @@ impl Lockable for File {
 }
 
 /// Why the lock of a folder isn't had.
-#[derive(Clone, Copy, Debug, PartialEq, Eq)]
+#[derive(Clone, Copy)]
 pub enum LockRefusal {
     /// Another has it.
     InUse,

@@ -18,7 +18,7 @@ use std::marker::Model;
 use std::sync::Arc;
 
 /// What the values of a field are, and so how the field can be asked for.
-#[derive(Clone, Copy, Debug, Drop, PartialEq, Eq)]
+#[derive(Clone, Copy, Drop)]
 pub enum Kind {
     /// A text that is searched by its words, as Lucene's `TextField`; the words go by a rule of our own.
     Text,

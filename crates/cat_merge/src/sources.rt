@@ -10,7 +10,7 @@ use cat_views::cat_segment::Segment;
 use std::alloc::AllocError;
 
 /// Bytes of the file with the sources of a segment's rows, which a merge has to copy.
-#[derive(Clone, Copy, Debug, Drop, PartialEq, Eq)]
+#[derive(Clone, Copy, Drop)]
 pub struct SourceRange {
     /// The segment.
     pub segment: SegNo,

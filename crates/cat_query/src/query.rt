@@ -6,7 +6,7 @@ ghost use Rattle.cat_query.specs.View.{sign_of, primary_of, is_everything};
 use cat_base::Text;
 
 /// How a clause counts: `BooleanClause.Occur` in Lucene, without its `FILTER`.
-#[derive(Clone, Copy, Debug, Drop)]
+#[derive(Clone, Copy, Drop)]
 pub(crate) enum Sign {
     /// `+`: an item that is accepted matches the clause.
     Must,
@@ -17,7 +17,6 @@ pub(crate) enum Sign {
 }
 
 /// What is asked of a field. The end of a range that is `None` is open; both ends are part of the range.
-#[derive(Debug)]
 pub(crate) enum Test {
     /// The text has the word, as by Lucene's `TermQuery`.
     Word(Text),
@@ -59,7 +58,7 @@ impl Drop for Test {
 }
 
 /// What a clause asks.
-#[derive(Debug, Drop)]
+#[derive(Drop)]
 #[cycle(query)]
 pub(crate) enum Primary {
     /// Any item matches, as by `MatchAllDocsQuery`.
@@ -71,7 +70,7 @@ pub(crate) enum Primary {
 }
 
 /// A signed primary: Lucene's `BooleanClause`.
-#[derive(Debug, Drop)]
+#[derive(Drop)]
 #[cycle(query)]
 pub(crate) struct Clause {
     pub(crate) sign: Sign,
@@ -80,7 +79,6 @@ pub(crate) struct Clause {
 
 /// A query: Lucene's `BooleanQuery`, without scores. Contracts see it as the tree of its clauses, `query_of`; equality
 /// and hashes go by the tree.
-#[derive(Debug)]
 pub struct Query {
     pub(crate) clauses: Vec<Clause>,
 }

@@ -1,7 +1,7 @@
 //! What a step of warming did.
 
 /// What a step of warming did.
-#[derive(Clone, Copy, Debug, Drop, PartialEq, Eq)]
+#[derive(Clone, Copy, Drop)]
 pub enum WarmNews {
     /// Nothing: each noted query has its set in each segment.
     Idle,

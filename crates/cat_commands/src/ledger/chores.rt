@@ -27,7 +27,7 @@ use cat_protocol::replies::{Answer, News};
 use std::alloc::Global;
 
 /// A command of maintenance that makes no cached set; [`warm`](crate::ledger::warm) is the one that does.
-#[derive(Clone, Copy, Debug, PartialEq, Eq)]
+#[derive(Clone, Copy)]
 pub enum Chore {
     /// A step of the merge that the policy picks (Lucene: `IndexWriter.maybeMerge`).
     Merge,

@@ -7,7 +7,7 @@ use cat_base::{Cursor, Refusal};
 use std::str::from_utf8;
 
 /// The bytes begin with nothing that is written so. What takes no memory can fail by it alone.
-#[derive(Clone, Copy, Debug, Drop, PartialEq, Eq)]
+#[derive(Clone, Copy, Drop)]
 pub(crate) struct Unreadable;
 
 impl From<Unreadable> for Refusal {

@@ -15,7 +15,7 @@ use std::marker::Model;
 
 /// Where a row stands: the number of its segment, and its index there. So a place stays right where other segments come and
 /// go.
-#[derive(Clone, Copy, Debug)]
+#[derive(Clone, Copy)]
 pub(crate) struct Place {
     pub(crate) segment: SegNo,
     pub(crate) row: u32,
