@@ -1,6 +1,6 @@
 #!/usr/bin/env python3
-"""Two sessions at once over one folder, with a merger and a warmer beside them: each sees what it wrote, all writes are counted, and
-pages are made while the merger has the lock.
+"""Two sessions at once over one folder, or in memory, with a merger and a warmer beside them: each sees what it wrote, all writes are
+counted, all four are at work at once, and pages are made while the merger has the lock.
 
 usage: tests/at_once.py PROGRAM        (the catalogue)
 
@@ -9,13 +9,15 @@ days of tests/days to threads, one line behind another, and the Python client's 
 a plain model. The last line is `N passed, M failed`.
 """
 
+import os
 import queue
+import socket
 import subprocess
 import sys
 import threading
 from concurrent.futures import ThreadPoolExecutor
 
-from faulty import Faults, Faulty, can_stop_calls
+from faulty import GO_ON, Faults, Faulty, can_stop_calls, stop_calls
 from limits import Child, lines_behind
 from tries import Wrong, expect, run
 
@@ -105,6 +107,7 @@ def write_and_look(shared, session):
         expect(f"{what}: the page behind the write before", page[1], f"{written[-1]} {name} .")
         expect(f"{what}: all that it wrote is there", int(page[0].split()[2]) > number, True)
         expect(f"{what}: the close", shared.number(session, f"CLOSE {opened}"), opened)
+        expect(f"{what}: the closed view", shared.ask(session, f"GET {opened} {name}"), "NO 20")
     expect(f"session {session}: whether its numbers rise", written, sorted(set(written)))
     return written
 
@@ -123,24 +126,29 @@ def two_sessions_write_side_by_side(try_):
     """And at the end all of their writes are counted, each once; each session sees those of the other; and a second run has them."""
     for schema in SCHEMAS:
         for threads in ("1", "3"):
-            folder, ended = str(try_.room.folder()), threading.Event()
-            child = Child(try_.program, "run", "--threads", threads, folder)
-            try:
-                shared = Shared(child, schema, (0, 1, 2))
-                with ThreadPoolExecutor(3) as lanes:
-                    beside = lanes.submit(keep_up, shared, ended)
-                    try:
-                        both = [lanes.submit(write_and_look, shared, session) for session in (1, 2)]
-                        written = sorted(number for it in both for number in it.result())
-                    finally:
-                        ended.set()
-                    expect("whether upkeep was asked for", beside.result() > 0, True)
-                all_is_counted(shared, written)
-                expect("the commit", shared.ask(1, "COMMIT").split()[0], "OK")
-                shared.end()
-            finally:
-                child.kill()
-            try_.count_again(folder, schema, 2 * EACH)
+            for place in ([str(try_.room.folder())], []):
+                child = Child(try_.program, "run", "--threads", threads, *place)
+                try:
+                    both_write(Shared(child, schema, (0, 1, 2)))
+                finally:
+                    child.kill()
+                for folder in place:
+                    try_.count_again(folder, schema, 2 * EACH)
+
+
+def both_write(shared):
+    ended = threading.Event()
+    with ThreadPoolExecutor(3) as lanes:
+        beside = lanes.submit(keep_up, shared, ended)
+        try:
+            both = [lanes.submit(write_and_look, shared, session) for session in (1, 2)]
+            written = sorted(number for it in both for number in it.result())
+        finally:
+            ended.set()
+        expect("whether upkeep was asked for", beside.result() > 0, True)
+    all_is_counted(shared, written)
+    expect("the commit", shared.ask(1, "COMMIT").split()[0], "OK")
+    shared.end()
 
 
 def all_is_counted(shared, written):
@@ -149,6 +157,60 @@ def all_is_counted(shared, written):
     for session in (1, 2):
         expect("the token at last", (shared.number(session, "REFRESH"), shared.number(session, "OPEN")), (2 * EACH, 2 * EACH))
         expect("how many are shown", shared.ask(session, f"FIND {2 * EACH} 0 . . price:7"), f"OK 0 {2 * EACH}")
+
+
+# How many rounds a session makes at most until a merger and a warmer are seen.
+ROUNDS = 2_000
+
+
+def all_are_at_work_at_once(try_):
+    """Nobody asks for upkeep, and both sessions go on until the merger has joined segments and the warmer has stored a set beside them.
+    Both put an item of the same id, of which a view has one."""
+    for place in ([str(try_.room.folder())], []):
+        child = Child(try_.program, "run", "--threads", "3", *place)
+        try:
+            shared, seen = Shared(child, SCHEMAS[0], (0, 1, 2)), threading.Event()
+            with ThreadPoolExecutor(2) as lanes:
+                both = [lanes.submit(put_the_same, shared, session, seen) for session in (1, 2)]
+                try:
+                    while not any(it.done() for it in both) and not are_at_work(shared):
+                        pass
+                    had_ended = [it.done() for it in both]
+                finally:
+                    seen.set()
+                written = sorted(number for it in both for number in it.result())
+            expect("whether a session ended before", had_ended, [False, False])
+            expect("the writes", written, list(range(1, len(written) + 1)))
+            expect("the count of writes", shared.number(0, "STAT"), len(written))
+            shared.end()
+        finally:
+            child.kill()
+
+
+def are_at_work(shared):
+    """Whether there is a segment that only a merge makes, and a set. One that a REFRESH makes has the waiting writes of both at most."""
+    first, *segments = shared.ask(0, "STAT").split("\n")
+    return int(first.split()[5]) > 0 and any(int(it.split()[1]) > 4 for it in segments)
+
+
+def put_the_same(shared, session, seen):
+    """Puts an item of its own and one that both put, and looks at them, until the others are seen. Answers the numbers of the writes."""
+    written = []
+    for number in range(ROUNDS):
+        what = f"session {session}, round {number}"
+        written.append(shared.number(session, f"PUT {text_of(session, number)}"))
+        written.append(shared.number(session, 'PUT {"id":"both","name":"red","price":7}'))
+        token = shared.number(session, "REFRESH")
+        opened = shared.number(session, "OPEN")
+        expect(f"{what}: its number, the token and the view rise: {written[-1]} {token} {opened}", written[-1] <= token <= opened, True)
+        count, shown = shared.ask(session, f"FIND {opened} 9 +price . name:red").split("\n")
+        expect(f"{what}: how many have the id of both", count, "OK 1 1")
+        expect(f"{what}: which of them it is", int(shown.split()[0]) >= written[-1] and shown.split()[1:] == ["both", "7"], True)
+        expect(f"{what}: the close", shared.number(session, f"CLOSE {opened}"), opened)
+        if seen.is_set():
+            break
+    expect(f"session {session}: whether its numbers rise", written, sorted(set(written)))
+    return written
 
 
 def two_sessions_of_an_input_write_side_by_side(try_):
@@ -224,6 +286,70 @@ def reads_go_on(shared, what):
     expect(f"whether the write waits for the lock {what}", waits(shared, 3), True)
 
 
+class Halted(Faulty):
+    """The program in memory, of whose merger a call is held that takes memory. The C library makes one for each piece of 128 KB or more."""
+
+    merger = passes = None
+
+    def prepare(self):
+        Child.prepare(self)
+        os.environ["GLIBC_TUNABLES"] = f"glibc.malloc.mmap_threshold={128 << 10}"
+        socket.send_fds(self.theirs, [b"."], [stop_calls(has_memory=True)])
+
+    def halt(self, passes):
+        """Holds the merger's call behind so many others. The merger's thread is the first that the program started."""
+        first = self.process.pid
+        threads = [int(it) for it in os.listdir(f"/proc/{first}/task")]
+        # The numbers of threads rise, and begin again at the greatest.
+        self.passes, self.merger = passes, sorted(threads, key=lambda it: (it - first) % (1 << 22))[1]
+
+    def allocation(self, process, number, words):
+        if process == self.merger:
+            self.passes -= 1
+            if self.passes == -1:
+                return None
+        return 0, 0, GO_ON
+
+
+# How many rows each of two segments has, nearly all of 7,500 bytes; and how many large pieces the merger takes for them at least.
+ROWS, LARGE = 20, 3
+LONG = "word " * 1_500
+
+
+def write_and_hold(shared, session):
+    """A session makes a segment's writes, first the one of the id of both, and opens a view of them."""
+    last = session * ROWS
+    expect("a write", shared.number(session, 'PUT {"id":"both","name":"red","price":7}'), last - ROWS + 1)
+    for number in range(last - ROWS + 2, last + 1):
+        expect("a write", shared.number(session, f'PUT {{"id":"{number}","name":"{LONG}","price":3}}'), number)
+    expect("the token and the view", (shared.number(session, "REFRESH"), shared.number(session, "OPEN")), (last, last))
+
+
+def pages_in_memory_are_made_while_the_merger_has_the_lock(try_):
+    """Two sessions hold views of their own, and both put an item of the same id, of which each view has one."""
+    for passes in range(LARGE):
+        child = Halted(try_.room.folder(), try_.program, "run", "--threads", "4")
+        try:
+            shared = Shared(child, SCHEMAS[1], (0, 1, 2, 3))
+            for session in (1, 2):
+                write_and_hold(shared, session)
+            child.halt(passes)
+            expect("a merge", shared.ask(0, "FORCE"), "OK begun 2")
+            expect("whether a call of the merger is held", child.holds.wait(SECONDS), True)
+            shared.say(3, 'PUT {"id":"c"}')
+            for session, count in ((1, ROWS), (2, 2 * ROWS - 1)):
+                what, view = f"of session {session} beside call {passes}", session * ROWS
+                shown = f"OK 1 1\n{view - ROWS + 1} both 7"
+                expect(f"the page {what}", shared.ask(session, f"FIND {view} 9 +price . name:red"), shown)
+                expect(f"the count {what}", shared.ask(session, f"FIND {view} 0 +price . price:[1 TO *]"), f"OK 0 {count}")
+            expect(f"whether the write waits for the lock beside call {passes}", waits(shared, 3), True)
+            child.release()
+            expect("the write at last", shared.reply(3, "PUT"), f"OK {2 * ROWS + 1}")
+            shared.end()
+        finally:
+            child.kill()
+
+
 def waits(shared, session):
     """Whether the session is told nothing for a while."""
     try:
@@ -234,13 +360,15 @@ def waits(shared, session):
 
 TESTS = (
     two_sessions_write_side_by_side,
+    all_are_at_work_at_once,
     two_sessions_of_an_input_write_side_by_side,
     pages_are_made_while_the_merger_has_the_lock,
+    pages_in_memory_are_made_while_the_merger_has_the_lock,
 )
 
 
 if __name__ == "__main__":
     if not can_stop_calls():
         print("at_once: pages while the merger has the lock are left out: no call of a child can be stopped here", file=sys.stderr)
-        TESTS = TESTS[:2]
+        TESTS = TESTS[:3]
     sys.exit(run("at_once", USAGE, Try, TESTS))

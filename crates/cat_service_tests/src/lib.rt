@@ -1,5 +1,5 @@
-//! Tests of what no line of the program shows: the service compared with a catalogue in plain lists, callers in threads that wait
-//! for each other, the text of every reply, and what refusals show.
+//! Tests of what no line of the program shows: the service compared with a catalogue in plain lists, the text of every reply, and
+//! what refusals show.
 #![tactic(auto)]
 
 #[cfg(test)]
@@ -10,6 +10,6 @@ mod refusals;
 #[cfg(test)]
 mod replies;
 #[cfg(test)]
-mod threads;
+mod shared;
 #[cfg(test)]
 mod verdict;
