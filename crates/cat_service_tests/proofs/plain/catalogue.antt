@@ -1,3 +1,4 @@
+pub mod Changes
 pub mod Deletes
 pub mod FacetReplies
 pub mod Finds

@@ -44,6 +44,21 @@ held_filter p (x ∷ hs) t h = held_filter_at x (filter p hs) hs t (p x) (held_f
 pub sound_closed : (vs : List RecordedTable) (hs : List Hold) (p : Hold → Bool) → IsSound vs hs → IsSound vs (filter p hs)
 sound_closed vs hs p ok = record { some_view = ok.some_view; held = λ t h. ok.held t (held_filter p hs t h) }
 
+-- what is held after an OPEN was held before, or has just been opened
+opened_at : (vs : List RecordedTable) (hs : List Hold) (t u : ℕ) → has_view vs t ≡ true → (held_in hs u ≡ true → has_view vs u ≡ true) → (b : Bool) → held_in hs u ≡ b → (b || ((t == u) || false)) ≡ true
+    → has_view vs u ≡ true
+opened_at vs hs t u has before true is h = before is
+opened_at vs hs t u has before false is h =
+    elim (eqb_tells t u) [
+      | inl e ↦ ap (has_view vs) (sym e.1) ∙ has
+      | inr e ↦ absurd (let none : false ≡ true = rw e.0 at h in cc)
+    ]
+
+pub sound_opened : (vs : List RecordedTable) (hs : List Hold) (s t : ℕ) → has_view vs t ≡ true → IsSound vs hs → IsSound vs (hs ++ record { session = s; token = t } ∷ [])
+sound_opened vs hs s t has ok =
+    let one : Hold = record { session = s; token = t } in
+    record { some_view = ok.some_view; held = λ u h. opened_at vs hs t u has (ok.held u) (held_in hs u) refl (sym (list_any-append (λ k. k.token == u) hs (one ∷ [])) ∙ h) }
+
 -- ---- the view that leaves
 
 false_and : (b c : Bool) → (b ≡ false → c ≡ false) → (not b && c) ≡ false
