@@ -88,32 +88,6 @@ fn add_answerer<J: Naming, S: Shelf + Drop, R: Wait>(
     Ok(())
 }
 
-/// Adds what a thread has for each of the shelves, and where the reader leaves lines for it.
-fn add_answerers<J: Naming, S: Shelf + Drop, R: Wait>(
-    rt: &R,
-    alloc: Global,
-    shelves: Vec<S>,
-    answerers: &mut Vec<Answerer<J, S>>,
-    sendings: &mut Vec<Sending>,
-) -> Result<(), AllocError> {
-    for shelf in shelves {
-        add_answerer(rt, alloc, shelf, answerers, sendings)?;
-    }
-    Ok(())
-}
-
-/// Gives the pass to the thread at the place.
-fn give_pass<J: Naming, S: Shelf + Drop>(
-    answerers: &mut [Answerer<J, S>],
-    place: usize,
-    pass: Pass<J>,
-) -> Result<(), AllocError> {
-    if let Some(answerer) = answerers.get_mut(place) {
-        answerer.passes.push(pass)?;
-    }
-    Ok(())
-}
-
 /// The place behind this one; the first behind the last.
 fn next_place(place: usize, count: usize) -> usize {
     let next = place.saturating_add(1);
@@ -128,25 +102,30 @@ fn deal<J: Naming, S: Shelf + Drop>(
     let count = answerers.len();
     let mut place = 0;
     for pass in passes {
-        give_pass(answerers, place, pass)?;
+        // There is none only where there are no threads.
+        let Some(answerer) = answerers.get_mut(place) else {
+            return Ok(());
+        };
+        answerer.passes.push(pass)?;
         place = next_place(place, count);
     }
     Ok(())
 }
 
-/// What each thread has: one of the shelves, and its share of the passes. Where the reader leaves lines for them is added in their
-/// order.
-fn answerers<J: Naming, S: Shelf + Drop, R: Wait>(
+/// Adds what each thread has: one of the shelves, and its share of the passes. Where the reader leaves lines for them is added in
+/// their order.
+fn add_answerers<J: Naming, S: Shelf + Drop, R: Wait>(
     rt: &R,
     alloc: Global,
     passes: Vec<Pass<J>>,
     shelves: Vec<S>,
+    answerers: &mut Vec<Answerer<J, S>>,
     sendings: &mut Vec<Sending>,
-) -> Result<Vec<Answerer<J, S>>, AllocError> {
-    let mut answerers = Vec::new(alloc);
-    add_answerers(rt, alloc, shelves, &mut answerers, sendings)?;
-    deal(passes, answerers.as_mut_slice())?;
-    Ok(answerers)
+) -> Result<(), AllocError> {
+    for shelf in shelves {
+        add_answerer(rt, alloc, shelf, answerers, sendings)?;
+    }
+    deal(passes, answerers.as_mut_slice())
 }
 
 /// Lets go what waits for each thread.
@@ -276,65 +255,9 @@ fn start_all<
     Ok(())
 }
 
-/// Starts all threads, and hands the lines of the reader out to those that answer them.
-fn start_and_hand_out<
-    's,
-    'f: 's,
-    E: 's,
-    J: Naming + Send + Sync + 's,
-    D: Directory + Shelf + Drop + Send + 's,
-    S: Shelf + Drop + Send + 's,
-    R: Threads + Wait + Clock + Sync + 's,
-    I: Read,
-    W: Write + Drop + Send + 's,
->(
-    scope: &Scope<'s, E>,
-    front: &'s Front<'f, D, J, R>,
-    flag: &'s AtomicU64,
-    answerers: Vec<Answerer<J, S>>,
-    sendings: Vec<Sending>,
-    lines: &mut Lines,
-    reader: &mut I,
-    output: &'s Mutex<Output<W>>,
-) -> Result<(), Fault> {
-    let mut sendings = sendings;
-    match start_all(scope, front, flag, answerers, output) {
-        Ok(()) => hand_out(front.rt, lines, reader, sendings.as_mut_slice(), output),
-        Err(fault) => Err(fault),
-    }
-}
-
-/// Starts the threads that answer lines, a merger and a warmer beside them, and hands out the lines of the reader.
+/// Runs the service over the stream: the passes go to as many threads as there are shelves, which answer lines, with a merger and a
+/// warmer beside them, and the lines of the reader are handed out to them.
 fn run_stream<
-    J: Naming + Send + Sync,
-    D: Directory + Shelf + Drop + Send,
-    S: Shelf + Drop + Send,
-    R: Threads + Wait + Clock + Sync,
-    I: Read,
-    W: Write + Drop + Send,
->(
-    front: &Front<'_, D, J, R>,
-    answerers: Vec<Answerer<J, S>>,
-    sendings: Vec<Sending>,
-    lines: &mut Lines,
-    reader: &mut I,
-    output: &Mutex<Output<W>>,
-) -> Result<(), Fault> {
-    let rt = front.rt;
-    let ended = AtomicU64::new(0);
-    let flag = &ended;
-    thread::scope(thread::scope_env(), rt, move |scope| -> Result<(), Fault> {
-        let handed = start_and_hand_out(
-            scope, front, flag, answerers, sendings, lines, reader, output,
-        );
-        // Whatever came of it, the merger and the warmer end now.
-        flag.store(1, Ordering::SeqCst);
-        handed
-    })
-}
-
-/// Runs the service over the stream: the passes go to as many threads as there are shelves.
-fn run_passes<
     J: Naming + Send + Sync,
     D: Directory + Shelf + Drop + Send,
     S: Shelf + Drop + Send,
@@ -349,11 +272,32 @@ fn run_passes<
     reader: &mut I,
     output: &Mutex<Output<W>>,
 ) -> Result<(), Fault> {
+    let rt = front.rt;
+    let mut answerers = Vec::new(front.alloc);
     let mut sendings = Vec::new(front.alloc);
-    match answerers(front.rt, front.alloc, passes, shelves, &mut sendings) {
-        Ok(answerers) => run_stream(front, answerers, sendings, lines, reader, output),
-        Err(AllocError) => Err(Fault::Thread),
+    let added = add_answerers(
+        rt,
+        front.alloc,
+        passes,
+        shelves,
+        &mut answerers,
+        &mut sendings,
+    );
+    if added.is_err() {
+        return Err(Fault::Thread);
     }
+    let ended = AtomicU64::new(0);
+    let flag = &ended;
+    thread::scope(thread::scope_env(), rt, move |scope| -> Result<(), Fault> {
+        let mut sendings = sendings;
+        let handed = match start_all(scope, front, flag, answerers, output) {
+            Ok(()) => hand_out(rt, lines, reader, sendings.as_mut_slice(), output),
+            Err(fault) => Err(fault),
+        };
+        // Whatever came of it, the merger and the warmer end now.
+        flag.store(1, Ordering::SeqCst);
+        handed
+    })
 }
 
 /// Runs a service over what was opened, over the stream.
@@ -380,7 +324,7 @@ fn serve_opened<
     let Some((service, passes)) = service_of::<D, J>(alloc, begun, numbers) else {
         return Err(Fault::Thread);
     };
-    let run = run_passes(
+    let run = run_stream(
         &Front::new(rt, alloc, &service, &schema, &stream.asked),
         passes,
         shelves,
@@ -401,29 +345,6 @@ fn outcome_of<W: Write + Drop>(
         return Err(Fault::Write);
     }
     served
-}
-
-/// Answers the lines behind the first, once that has opened the directory.
-fn serve_lines<
-    D: Directory + Shelf + Drop + Send,
-    S: Shelf + Drop + Send,
-    R: Threads + Wait + Clock + Sync,
-    I: Read,
-    W: Write + Drop + Send,
->(
-    rt: &R,
-    alloc: Global,
-    opened: Opened<D>,
-    shelves: Vec<S>,
-    stream: &mut Stream,
-    reader: &mut I,
-    writer: W,
-) -> Result<(), Fault> {
-    let output = Mutex::new(Output::new(writer));
-    let served = serve_opened::<Brand, D, S, R, I, W>(
-        rt, alloc, opened, shelves, stream, reader, &output,
-    );
-    outcome_of(served, output)
 }
 
 /// Answers each line of the reader as it comes: the first opens the newest commit of the directory, or an empty catalogue where
@@ -450,6 +371,20 @@ pub fn serve_stream<
     let Ok(mut stream) = Stream::new(alloc) else {
         return Err(refuse(Refusal::Memory, &mut writer));
     };
-    let opened = begin_by_first(alloc, device, &mut stream.lines, reader, &mut writer)?;
-    serve_lines(rt, alloc, opened, shelves, &mut stream, reader, writer)
+    match begin_by_first(alloc, device, &mut stream.lines, reader, &mut writer) {
+        Ok(opened) => {
+            let output = Mutex::new(Output::new(writer));
+            let served = serve_opened::<Brand, D, S, R, I, W>(
+                rt,
+                alloc,
+                opened,
+                shelves,
+                &mut stream,
+                reader,
+                &output,
+            );
+            outcome_of(served, output)
+        }
+        Err(fault) => Err(fault),
+    }
 }
