@@ -153,6 +153,28 @@ fn hear<I: Read>(
     }
 }
 
+/// Opens the directory by the first line, whose reply is written, and hears the lines behind it.
+fn open_and_hear<D: Directory + Shelf + Drop, I: Read, W: Write>(
+    alloc: Global,
+    device: D,
+    reader: &mut I,
+    writer: &mut W,
+) -> Result<(Opened<D>, (Heard, Running)), Fault>
+    ensures { IfOk result (λ r. all_different r.1.1.numbers.items ≡ true) }
+{
+    let Ok(mut lines) = Lines::new(alloc) else {
+        return Err(refuse(Refusal::Memory, writer));
+    };
+    let opened = begin_by_first(alloc, device, &mut lines, reader, writer)?;
+    match hear(alloc, &mut lines, reader) {
+        Ok(heard) => Ok((opened, heard)),
+        Err(fault) => {
+            drop(opened);
+            Err(fault)
+        }
+    }
+}
+
 /// Seats the session of the pass, with what it says and one of the shelves. No, where a shelf or memory is wanting.
 fn seat<'a, J: Naming, S: Shelf + Drop>(
     alloc: Global,
@@ -196,35 +218,7 @@ fn seat_all<'a, J: Naming, S: Shelf + Drop>(
     true
 }
 
-/// What the sessions of the passes say, each with a shelf. None where there are too few of these.
-fn seated<'a, J: Naming, S: Shelf + Drop>(
-    alloc: Global,
-    schema: &'a Schema,
-    asked: &'a Asked,
-    passes: Vec<Pass<J>>,
-    spoken: &'a [Spoken],
-    shelves: Vec<S>,
-) -> Option<Vec<(Pass<J>, Talk<'a, J, S>)>>
-    requires { schema.now ≡ J.from.start.schema }
-{
-    let mut shelves = shelves;
-    let mut sessions = Vec::new(alloc);
-    if seat_all(
-        alloc,
-        schema,
-        asked,
-        passes,
-        spoken,
-        &mut shelves,
-        &mut sessions,
-    ) {
-        Some(sessions)
-    } else {
-        None
-    }
-}
-
-/// Runs the sessions of the passes over the service.
+/// Runs the sessions of the passes over the service, each with one of the shelves.
 fn run_seated<
     J: Naming + Send + Sync,
     D: Directory + Shelf + Drop + Send,
@@ -242,9 +236,21 @@ fn run_seated<
 ) -> Result<(), Fault>
     requires { schema.now ≡ J.from.start.schema }
 {
-    let Some(sessions) = seated(alloc, schema, asked, passes, spoken, shelves) else {
+    let mut shelves = shelves;
+    let mut sessions = Vec::new(alloc);
+    let seated = seat_all(
+        alloc,
+        schema,
+        asked,
+        passes,
+        spoken,
+        &mut shelves,
+        &mut sessions,
+    );
+    drop(shelves);
+    if !seated {
         return Err(Fault::Thread);
-    };
+    }
     let merging = Resting::new(rt);
     match run_threads(rt, alloc, service, sessions, merging, Resting::new(rt)) {
         Ok(_passes) => Ok(()),
@@ -328,62 +334,12 @@ fn send_replies<W: Write>(heard: &mut Heard, to: &mut W) -> Result<(), WriteFaul
     flush(to)
 }
 
-/// Writes the replies, and says whether that failed.
-fn tell_all<W: Write>(heard: &mut Heard, to: &mut W) -> Result<(), Fault> {
-    match send_replies(heard, to) {
-        Ok(()) => Ok(()),
-        Err(WriteFault) => Err(Fault::Write),
+/// Writes the replies, if the sessions ran, and says whether that failed.
+fn tell_all<W: Write>(ran: Result<(), Fault>, heard: &mut Heard, to: &mut W) -> Result<(), Fault> {
+    if ran.is_ok() && send_replies(heard, to).is_err() {
+        return Err(Fault::Write);
     }
-}
-
-/// Runs the sessions whose lines were heard, and writes what they are told.
-fn run_and_tell<
-    D: Directory + Shelf + Drop + Send,
-    S: Shelf + Drop + Send,
-    R: Threads + Wait + Clock + Sync,
-    W: Write,
->(
-    rt: &R,
-    alloc: Global,
-    opened: Opened<D>,
-    heard: &mut Heard,
-    running: &Running,
-    shelves: Vec<S>,
-    writer: &mut W,
-) -> Result<(), Fault>
-    requires { all_different running.now.numbers.items ≡ true }
-{
-    let spoken = heard.spoken.as_slice();
-    run_sessions::<Brand, D, S, R>(rt, alloc, opened, spoken, running, shelves)?;
-    tell_all(heard, writer)
-}
-
-/// Hears the lines behind the first, runs all sessions, and writes what they are told.
-fn answer_all<
-    D: Directory + Shelf + Drop + Send,
-    S: Shelf + Drop + Send,
-    R: Threads + Wait + Clock + Sync,
-    I: Read,
-    W: Write,
->(
-    rt: &R,
-    alloc: Global,
-    opened: Opened<D>,
-    shelves: Vec<S>,
-    lines: &mut Lines,
-    reader: &mut I,
-    writer: &mut W,
-) -> Result<(), Fault> {
-    match hear(alloc, lines, reader) {
-        Ok((heard, running)) => {
-            let mut heard = heard;
-            run_and_tell(rt, alloc, opened, &mut heard, &running, shelves, writer)
-        }
-        Err(fault) => {
-            drop(opened);
-            Err(fault)
-        }
-    }
+    ran
 }
 
 /// Says why nothing is opened.
@@ -416,9 +372,13 @@ pub fn serve_threads<
     reader: &mut I,
     writer: &mut W,
 ) -> Result<(), Fault> {
-    let Ok(mut lines) = Lines::new(alloc) else {
-        return Err(refuse(Refusal::Memory, writer));
-    };
-    let opened = begin_by_first(alloc, device, &mut lines, reader, writer)?;
-    answer_all(rt, alloc, opened, shelves, &mut lines, reader, writer)
+    match open_and_hear(alloc, device, reader, writer) {
+        Ok((opened, (heard, running))) => {
+            let mut heard = heard;
+            let spoken = heard.spoken.as_slice();
+            let ran = run_sessions::<Brand, D, S, R>(rt, alloc, opened, spoken, &running, shelves);
+            tell_all(ran, &mut heard, writer)
+        }
+        Err(fault) => Err(fault),
+    }
 }
