@@ -64,23 +64,6 @@ fn read_first(alloc: Global, line: &[u8]) -> Result<First, Refusal> {
     })
 }
 
-/// Opens the newest commit of the directory, or an empty catalogue where there is none, under what a line gave.
-fn begin_as<D: Directory + Shelf + Drop>(
-    alloc: Global,
-    device: D,
-    first: First,
-) -> Result<Opened<D>, Refusal> {
-    let First {
-        schema: read,
-        shared: schema,
-        policy,
-    } = first;
-    match Begun::open(alloc, device, read, policy) {
-        Ok(begun) => Ok(Opened { begun, schema }),
-        Err(not) => Err(not.refusal),
-    }
-}
-
 /// Opens the newest commit of the directory, or an empty catalogue where there is none, under the schema that the line gives. The
 /// refusals are those of a schema line.
 fn begin<D: Directory + Shelf + Drop>(
@@ -89,26 +72,18 @@ fn begin<D: Directory + Shelf + Drop>(
     line: &[u8],
 ) -> Result<Opened<D>, Refusal> {
     match read_first(alloc, line) {
-        Ok(first) => begin_as(alloc, device, first),
+        Ok(first) => {
+            let First {
+                schema: read,
+                shared: schema,
+                policy,
+            } = first;
+            match Begun::open(alloc, device, read, policy) {
+                Ok(begun) => Ok(Opened { begun, schema }),
+                Err(not) => Err(not.refusal),
+            }
+        }
         Err(refusal) => Err(refusal),
-    }
-}
-
-/// Reads the first line, and opens the directory by it. Where the line is refused, that is written.
-fn open_by_first<D: Directory + Shelf + Drop, I: Read, W: Write>(
-    alloc: Global,
-    device: D,
-    lines: &mut Lines,
-    reader: &mut I,
-    writer: &mut W,
-) -> Result<Opened<D>, Fault> {
-    // An input of no bytes has one line, which is empty.
-    if lines.next(reader) == Next::Fault {
-        return Err(Fault::Read);
-    }
-    match begin(alloc, device, lines.line()) {
-        Ok(opened) => Ok(opened),
-        Err(refusal) => Err(refuse(refusal, writer)),
     }
 }
 
@@ -129,13 +104,19 @@ pub(crate) fn begin_by_first<D: Directory + Shelf + Drop, I: Read, W: Write>(
     reader: &mut I,
     writer: &mut W,
 ) -> Result<Opened<D>, Fault> {
-    let opened = open_by_first(alloc, device, lines, reader, writer)?;
-    match tell_opened(opened.begun.count(), writer) {
-        Ok(()) => Ok(opened),
-        Err(fault) => {
-            drop(opened);
-            Err(fault)
-        }
+    // An input of no bytes has one line, which is empty.
+    if lines.next(reader) == Next::Fault {
+        return Err(Fault::Read);
+    }
+    match begin(alloc, device, lines.line()) {
+        Ok(opened) => match tell_opened(opened.begun.count(), writer) {
+            Ok(()) => Ok(opened),
+            Err(fault) => {
+                drop(opened);
+                Err(fault)
+            }
+        },
+        Err(refusal) => Err(refuse(refusal, writer)),
     }
 }
 
