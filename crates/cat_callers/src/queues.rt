@@ -27,16 +27,11 @@ pub(crate) struct Taking {
 
 /// The two ends. All memory is taken here.
 pub(crate) fn ends<R: Wait>(rt: &R, alloc: Global) -> Result<(Sending, Taking), AllocError> {
+    let filling = Vec::with_capacity(alloc, PARCEL)?;
     let (full, filled) = bounded(alloc, PARCELS)?;
     let (empty, emptied) = bounded(alloc, PARCELS)?;
-    for _ in 1..PARCELS {
-        let parcel = Vec::with_capacity(alloc, PARCEL)?;
-        if empty.send(rt, parcel).is_err() {
-            return Err(AllocError);
-        }
-    }
     let sending = Sending {
-        filling: Vec::with_capacity(alloc, PARCEL)?,
+        filling,
         full,
         empty: emptied,
     };
@@ -44,6 +39,12 @@ pub(crate) fn ends<R: Wait>(rt: &R, alloc: Global) -> Result<(Sending, Taking), 
         full: filled,
         empty,
     };
+    for _ in 1..PARCELS {
+        let parcel = Vec::with_capacity(alloc, PARCEL)?;
+        if taking.empty.send(rt, parcel).is_err() {
+            return Err(AllocError);
+        }
+    }
     Ok((sending, taking))
 }
 
