@@ -1,3 +1,4 @@
+pub mod Needs
 pub mod Sessions
 pub mod SharedFiles
 pub mod Told

@@ -3,8 +3,10 @@ ghost use Rattle.std.specs.Prelude.{◌≡◌};
 ghost use Rattle.cat_threads.specs.cat_commands.cat_protocol.lines.Line.{said_of};
 ghost use Rattle.cat_threads.specs.cat_commands.cat_protocol.replies.Reply.{reply_of};
 ghost use Rattle.cat_threads.specs.service.Passes.{Follows};
-ghost use Rattle.cat_callers.specs.Sessions.{AreRightsTo};
+ghost use Rattle.cat_ledger_laws.specs.shape.Ties.{ToldFiles};
+ghost use Rattle.cat_callers.specs.Sessions.{AreRightsTo, Kept};
 ghost use Rattle.cat_callers.specs.Told.{Tells, serves};
+ghost use Rattle.cat_callers.specs.Needs.{NeedsNoRight, ServesAll};
 
 use crate::asked::Asked;
 use crate::holdings::Holdings;
@@ -103,19 +105,39 @@ impl<'a, D: Directory + Shelf, J: Naming, R: Wait> Front<'a, D, J, R> {
         ensures told { Tells (S.bytes shelf.old) J.from (serves D.bytes J.from) (said_of command.entry) me.old holdings.old me.new holdings.new (reply_of result) }
     {
         match command {
-            Command::NoForm => Err(Refusal::Line),
-            Command::Put(text) => self.put(me, text),
-            Command::Delete(id) => self.delete(me, id),
-            Command::DeleteWhere(text) => self.delete_where(me, text),
-            Command::Refresh => self.refresh(me),
             Command::Open(token) => self.open(me, holdings, token),
             Command::Close(token) => self.close(me, holdings, token),
             Command::Find(find) => self.find(me, holdings, find),
             Command::Facets(facets) => self.count_facets(holdings, facets),
             Command::Get { token, id } => self.get(holdings, shelf, token, id),
             Command::FilesOfToken(token) => self.files_of_token(holdings, token),
-            Command::FilesOfCommit(generation) => self.told(Chore::Files(generation)),
+            _ => self.told_without(me, command),
+        }
+    }
+
+    /// Answers a line that needs none of the session's rights.
+    fn told_without(&self, me: &mut Pass<J>, command: Command<'_>) -> Result<Answer, Refusal>
+        requires { NeedsNoRight command }
+        ensures seen { Follows me.old me.new }
+        ensures told { (files : ToldFiles) (kept : Kept) → Tells files J.from (serves D.bytes J.from) (said_of command.entry) me.old kept me.new kept (reply_of result) }
+    {
+        match command {
+            Command::Put(text) => self.put(me, text),
+            Command::Delete(id) => self.delete(me, id),
+            Command::DeleteWhere(text) => self.delete_where(me, text),
+            Command::Refresh => self.refresh(me),
+            _ => self.told_to_all(me, command),
+        }
+    }
+
+    /// Answers a line that serves all sessions, or has no form.
+    fn told_to_all(&self, me: &Pass<J>, command: Command<'_>) -> Result<Answer, Refusal>
+        requires { ServesAll command }
+        ensures { (files : ToldFiles) (kept : Kept) → Tells files J.from (serves D.bytes J.from) (said_of command.entry) me.now kept me.now kept (reply_of result) }
+    {
+        match command {
             Command::Commit(text) => self.commit(text),
+            Command::FilesOfCommit(generation) => self.told(Chore::Files(generation)),
             Command::Note(generation) => self.told(Chore::Note(generation)),
             Command::Snapshot => self.told(Chore::Snap),
             Command::Unsnapshot(generation) => self.told(Chore::Unsnap(generation)),
@@ -125,6 +147,7 @@ impl<'a, D: Directory + Shelf, J: Naming, R: Wait> Front<'a, D, J, R> {
             Command::Warm => self.maintain(me, Chore::Warm),
             Command::Sweep => self.maintain(me, Chore::Sweep),
             Command::Stat => self.maintain(me, Chore::Stat),
+            _ => Err(Refusal::Line),
         }
     }
 }
