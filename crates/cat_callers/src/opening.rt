@@ -105,7 +105,7 @@ pub(crate) fn begin_by_first<D: Directory + Shelf + Drop, I: Read, W: Write>(
     writer: &mut W,
 ) -> Result<Opened<D>, Fault> {
     // An input of no bytes has one line, which is empty.
-    if lines.next(reader) == Next::Fault {
+    if matches!(lines.next(reader), Next::Fault) {
         return Err(Fault::Read);
     }
     match begin(alloc, device, lines.line()) {
