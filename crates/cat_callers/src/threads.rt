@@ -1,5 +1,5 @@
 //! All lines of an input, each session's in a thread of its own.
-ghost use Rattle.std.specs.Prelude.{◌≡◌, [], true, IfOk};
+ghost use Rattle.std.specs.Prelude.{◌≡◌, [], true, IfOk, IfSome};
 ghost use Rattle.cat_threads.specs.cat_commands.cat_ledger.Ledgers.{shape_in};
 ghost use Rattle.cat_threads.specs.service.Passes.{all_different, seated_by};
 ghost use Rattle.cat_threads.specs.sharing.Grounds.{ground_of};
@@ -99,21 +99,6 @@ fn running_numbers(alloc: Global, spoken: &[Spoken]) -> Result<Vec<SessionNo>, A
     Ok(numbers)
 }
 
-/// The numbers of the sessions that run, each of which stands there once.
-fn different_numbers(alloc: Global, spoken: &[Spoken]) -> Result<Vec<SessionNo>, Fault>
-    ensures { IfOk result (λ n. all_different n.items ≡ true) }
-{
-    let Ok(numbers) = running_numbers(alloc, spoken) else {
-        return Err(Fault::Thread);
-    };
-    // They were sorted, and each session was heard once.
-    if rise(numbers.as_slice()) {
-        Ok(numbers)
-    } else {
-        Err(Fault::Thread)
-    }
-}
-
 /// Who runs, and what they share.
 #[derive(Drop)]
 struct Running {
@@ -124,14 +109,20 @@ struct Running {
 }
 
 impl Running {
-    /// Those of the sessions that run.
-    fn of(alloc: Global, spoken: &[Spoken]) -> Result<Running, Fault>
-        ensures { IfOk result (λ r. all_different r.numbers.items ≡ true) }
+    /// Those of the sessions that run. None where memory is wanting.
+    fn of(alloc: Global, spoken: &[Spoken]) -> Option<Running>
+        ensures { IfSome result (λ r. all_different r.numbers.items ≡ true) }
     {
-        let numbers = different_numbers(alloc, spoken)?;
+        let Ok(numbers) = running_numbers(alloc, spoken) else {
+            return None;
+        };
+        // They were sorted, and each session was heard once.
+        if !rise(numbers.as_slice()) {
+            return None;
+        }
         match Asked::new(alloc) {
-            Ok(asked) => Ok(Running { numbers, asked }),
-            Err(AllocError) => Err(Fault::Thread),
+            Ok(asked) => Some(Running { numbers, asked }),
+            Err(AllocError) => None,
         }
     }
 }
@@ -148,8 +139,8 @@ fn hear<I: Read>(
         return Err(Fault::Read);
     };
     match Running::of(alloc, heard.spoken.as_slice()) {
-        Ok(running) => Ok((heard, running)),
-        Err(fault) => Err(fault),
+        Some(running) => Ok((heard, running)),
+        None => Err(Fault::Thread),
     }
 }
 
@@ -308,19 +299,15 @@ fn send_no_command<W: Write>(spoken: &Spoken, to: &mut W) -> Result<(), WriteFau
     Ok(())
 }
 
-/// Writes what a session was told.
-fn send_one<W: Write>(spoken: &mut Spoken, to: &mut W) -> Result<(), WriteFault> {
-    if spoken.runs {
-        send_whole(spoken.told.get_mut(), to)
-    } else {
-        send_no_command(spoken, to)
-    }
-}
-
 /// Writes what each session was told, and that those which didn't run have no command.
 fn send_told<W: Write>(spoken: &mut [Spoken], to: &mut W) -> Result<(), WriteFault> {
     for each in spoken {
-        send_one(each, to)?;
+        let sent = if each.runs {
+            send_whole(each.told.get_mut(), to)
+        } else {
+            send_no_command(each, to)
+        };
+        sent?;
     }
     Ok(())
 }
