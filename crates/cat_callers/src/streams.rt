@@ -177,8 +177,23 @@ fn hand_out<I: Read, W: Write + Drop, R: Wait>(
     unreachable!()
 }
 
-/// Starts a merger and a warmer, which go on until the flag isn't 0.
-fn start_workers<
+/// Warms, or merges, until the flag isn't 0.
+fn work<D: Directory + Shelf, J: Naming, R: Wait + Clock>(
+    rt: &R,
+    service: &Service<D, J>,
+    flag: &AtomicU64,
+    warms: bool,
+) {
+    let resting = Resting::new(rt);
+    if warms {
+        warmer(rt, service, flag, resting);
+    } else {
+        merger(rt, service, flag, resting);
+    }
+}
+
+/// Starts a warmer, or a merger, which goes on until the flag isn't 0. Whether the thread was started.
+fn start_worker<
     's,
     E: 's,
     J: Naming + Send + Sync + 's,
@@ -189,19 +204,13 @@ fn start_workers<
     rt: &'s R,
     service: &'s Service<D, J>,
     flag: &'s AtomicU64,
-) -> Result<(), Fault> {
-    let job = move || merger(rt, service, flag, Resting::new(rt));
-    let Ok(_merger) = scope.spawn(job) else {
-        return Err(Fault::Thread);
-    };
-    let job = move || warmer(rt, service, flag, Resting::new(rt));
-    let Ok(_warmer) = scope.spawn(job) else {
-        return Err(Fault::Thread);
-    };
-    Ok(())
+    warms: bool,
+) -> bool {
+    let job = move || work(rt, service, flag, warms);
+    scope.spawn(job).is_ok()
 }
 
-/// Starts a thread that answers the lines which come to it, for sessions that are so many numbers apart.
+/// Starts a thread that answers the lines which come to it, for sessions that are so many numbers apart. Whether it was started.
 fn start_answerer<
     's,
     'f: 's,
@@ -217,20 +226,17 @@ fn start_answerer<
     answerer: Answerer<J, S>,
     apart: usize,
     output: &'s Mutex<Output<W>>,
-) -> Result<(), Fault> {
+) -> bool {
     let Answerer {
         passes,
         shelf,
         taking,
     } = answerer;
     let job = move || answer_stream(front, passes, apart, shelf, taking, output);
-    match scope.spawn(job) {
-        Ok(_answerer) => Ok(()),
-        Err(_) => Err(Fault::Thread),
-    }
+    scope.spawn(job).is_ok()
 }
 
-/// Starts a merger and a warmer, and the threads that answer lines.
+/// Starts a merger and a warmer, and the threads that answer lines. Whether all were started.
 fn start_all<
     's,
     'f: 's,
@@ -246,13 +252,19 @@ fn start_all<
     flag: &'s AtomicU64,
     answerers: Vec<Answerer<J, S>>,
     output: &'s Mutex<Output<W>>,
-) -> Result<(), Fault> {
-    start_workers(scope, front.rt, front.service, flag)?;
+) -> bool {
+    if !start_worker(scope, front.rt, front.service, flag, false)
+        || !start_worker(scope, front.rt, front.service, flag, true)
+    {
+        return false;
+    }
     let apart = answerers.len();
     for answerer in answerers {
-        start_answerer(scope, front, answerer, apart, output)?;
+        if !start_answerer(scope, front, answerer, apart, output) {
+            return false;
+        }
     }
-    Ok(())
+    true
 }
 
 /// Runs the service over the stream: the passes go to as many threads as there are shelves, which answer lines, with a merger and a
@@ -290,9 +302,10 @@ fn run_stream<
     let flag = &ended;
     thread::scope(thread::scope_env(), rt, move |scope| -> Result<(), Fault> {
         let mut sendings = sendings;
-        let handed = match start_all(scope, front, flag, answerers, output) {
-            Ok(()) => hand_out(rt, lines, reader, sendings.as_mut_slice(), output),
-            Err(fault) => Err(fault),
+        let handed = if start_all(scope, front, flag, answerers, output) {
+            hand_out(rt, lines, reader, sendings.as_mut_slice(), output)
+        } else {
+            Err(Fault::Thread)
         };
         // Whatever came of it, the merger and the warmer end now.
         flag.store(1, Ordering::SeqCst);
