@@ -70,22 +70,25 @@ struct Answerer<J: Naming, S: Shelf + Drop> {
     taking: Taking,
 }
 
-/// Adds what a thread has that reads from the shelf, without a pass, and where the reader leaves lines for it.
+/// Adds what a thread has that reads from the shelf, without a pass, and where the reader leaves lines for it. No, where memory is
+/// wanting.
 fn add_answerer<J: Naming, S: Shelf + Drop, R: Wait>(
     rt: &R,
     alloc: Global,
     shelf: S,
     answerers: &mut Vec<Answerer<J, S>>,
     sendings: &mut Vec<Sending>,
-) -> Result<(), AllocError> {
-    let (sending, taking) = ends(rt, alloc)?;
-    answerers.push(Answerer {
-        passes: Vec::new(alloc),
+) -> bool {
+    let Ok((sending, taking)) = ends(rt, alloc) else {
+        return false;
+    };
+    let passes = Vec::new(alloc);
+    let answerer = Answerer {
+        passes,
         shelf,
         taking,
-    })?;
-    sendings.push(sending)?;
-    Ok(())
+    };
+    answerers.push(answerer).is_ok() && sendings.push(sending).is_ok()
 }
 
 /// The place behind this one; the first behind the last.
@@ -94,26 +97,28 @@ fn next_place(place: usize, count: usize) -> usize {
     if next < count { next } else { 0 }
 }
 
-/// Gives the passes to the threads, one to each in turn.
+/// Gives the passes to the threads, one to each in turn. No, where memory is wanting.
 fn deal<J: Naming, S: Shelf + Drop>(
     passes: Vec<Pass<J>>,
     answerers: &mut [Answerer<J, S>],
-) -> Result<(), AllocError> {
+) -> bool {
     let count = answerers.len();
     let mut place = 0;
     for pass in passes {
         // There is none only where there are no threads.
         let Some(answerer) = answerers.get_mut(place) else {
-            return Ok(());
+            return true;
         };
-        answerer.passes.push(pass)?;
+        if answerer.passes.push(pass).is_err() {
+            return false;
+        }
         place = next_place(place, count);
     }
-    Ok(())
+    true
 }
 
 /// Adds what each thread has: one of the shelves, and its share of the passes. Where the reader leaves lines for them is added in
-/// their order.
+/// their order. No, where memory is wanting.
 fn add_answerers<J: Naming, S: Shelf + Drop, R: Wait>(
     rt: &R,
     alloc: Global,
@@ -121,9 +126,11 @@ fn add_answerers<J: Naming, S: Shelf + Drop, R: Wait>(
     shelves: Vec<S>,
     answerers: &mut Vec<Answerer<J, S>>,
     sendings: &mut Vec<Sending>,
-) -> Result<(), AllocError> {
+) -> bool {
     for shelf in shelves {
-        add_answerer(rt, alloc, shelf, answerers, sendings)?;
+        if !add_answerer(rt, alloc, shelf, answerers, sendings) {
+            return false;
+        }
     }
     deal(passes, answerers.as_mut_slice())
 }
@@ -295,7 +302,7 @@ fn run_stream<
         &mut answerers,
         &mut sendings,
     );
-    if added.is_err() {
+    if !added {
         return Err(Fault::Thread);
     }
     let ended = AtomicU64::new(0);
