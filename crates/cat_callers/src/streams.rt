@@ -144,6 +144,15 @@ fn let_all_go<R: Wait>(rt: &R, sendings: &mut [Sending]) -> bool {
     all
 }
 
+/// Hands a line to its thread. No, where that has ended.
+fn pass_on<R: Wait>(rt: &R, line: &[u8], sendings: &mut [Sending]) -> bool {
+    let place = place_of(line, sendings.len());
+    match sendings.get_mut(place) {
+        Some(sending) => sending.add(rt, line),
+        None => true,
+    }
+}
+
 /// Hands the lines of the reader to the threads, up to its end, or until a write has failed.
 fn hand_out<I: Read, W: Write + Drop, R: Wait>(
     rt: &R,
@@ -152,7 +161,6 @@ fn hand_out<I: Read, W: Write + Drop, R: Wait>(
     sendings: &mut [Sending],
     output: &Mutex<Output<W>>,
 ) -> Result<(), Fault> {
-    let threads = sendings.len();
     for _ in rt.forever() {
         if !lines.is_ready() {
             if !let_all_go(rt, sendings) {
@@ -162,24 +170,14 @@ fn hand_out<I: Read, W: Write + Drop, R: Wait>(
                 return Err(Fault::Write);
             }
         }
-        match lines.next(reader) {
-            Next::Line => {
-                let place = place_of(lines.line(), threads);
-                if let Some(sending) = sendings.get_mut(place) {
-                    if !sending.add(rt, lines.line()) {
-                        return Err(Fault::Thread);
-                    }
-                }
-            }
-            Next::End => {
-                let_all_go(rt, sendings);
-                return Ok(());
-            }
-            Next::Fault => {
-                let_all_go(rt, sendings);
-                return Err(Fault::Read);
-            }
-        }
+        let ended = match lines.next(reader) {
+            Next::Line if pass_on(rt, lines.line(), sendings) => continue,
+            Next::Line => return Err(Fault::Thread),
+            Next::End => Ok(()),
+            Next::Fault => Err(Fault::Read),
+        };
+        let_all_go(rt, sendings);
+        return ended;
     }
     unreachable!()
 }
