@@ -1,6 +1,6 @@
 -- The entries of a map whose names nobody has, in order.
 use Rattle.std.proofs.Common.{◌≡◌, ◌≢◌, ℕ, ◌+◌, List, [], ◌∷◌, map, get_or, Bool, true, false, cond, ◌&&◌, ◌||◌, Option, Some, None, refl, sym, ◌∙◌, ap, subst, arith}
-use Rattle.std.specs.Prelude.{◌==◌, count_by, is_some, unwrap_or, filter, AllPairs}
+use Rattle.std.specs.Prelude.{◌==◌, count_by, is_some, length, unwrap_or, filter, AllPairs}
 use Rattle.std.specs.List.{AllByRecursion, IsDistinct}
 use Rattle.std.specs.List.Sorted.{IsSorted, IsPermutation, IsStrictlySortedBy}
 use Rattle.std.specs.Map.{lookup, keys_of}
@@ -8,10 +8,10 @@ use Rattle.std.specs.Ordering.{is_eq, is_lt, ordering_reverse}
 use Rattle.std.specs.declared.cmp.Ordering.{Ordering}
 use Rattle.std.specs.declared.cmp.Ordering.TheVariants.{Less, Equal, Greater}
 use Rattle.std.proofs.lemmas.Bool.{both_ways}
-use Rattle.std.proofs.lemmas.List.Sorted.{list_any-IsPermutation}
-use Rattle.std.proofs.lemmas.List.Sums.{sum_by-cons}
+use Rattle.std.proofs.lemmas.List.Sorted.{length_permutation, list_any-IsPermutation}
+use Rattle.std.proofs.lemmas.List.Sums.{length-filter, sum_by-cons}
 use Rattle.std.proofs.lemmas.Map.Keys.{IsDistinct-IsPermutation, IsDistinct-head, IsDistinct-tail, apart_from_distinct, sorted_from_all_adjacent}
-use Rattle.std.proofs.lemmas.Map.Entries.{option_filter, lookup-filter-values}
+use Rattle.std.proofs.lemmas.Map.Entries.{length-keys_of, option_filter, lookup-filter-values}
 use Rattle.std.proofs.lemmas.Map.Made.{is_some-lookup, IsDistinct-keys_filter}
 use Rattle.cat_ledger_laws.specs.model.Portions.{Apart}
 use Rattle.cat_ledger_laws.specs.model.Users.{Used, is_known, same_file_name, users_of}
@@ -57,6 +57,18 @@ unused_are es names distinct moved sorted = record {
       ∙ zero_is (lookup (same_name q) es)
       ∙ (rw (known_in q es, users_in q es) refl);
 }
+
+none_has : (es : List (FileName × ℕ)) → count_by (λ (e : FileName × ℕ). e.1 == 0) es ≡ count_by (λ (u : Used). u.users == 0) (map used_in es)
+none_has [] = refl
+none_has (e ∷ es) =
+    sum_by-cons (λ (x : FileName × ℕ). cond (x.1 == 0) 1 0) e es ∙ ap {B = ℕ} (λ n. cond (e.1 == 0) 1 0 + n) (none_has es)
+    ∙ sym (sum_by-cons (λ (u : Used). cond (u.users == 0) 1 0) (used_in e) (map used_in es))
+
+-- and as many as these
+pub unused_count : (es : List (FileName × ℕ)) (names : List FileName) → IsPermutation (keys_of (filter (λ e. e.1 == 0) es)) names
+    → length names ≡ count_by (λ (u : Used). u.users == 0) (map used_in es)
+unused_count es names moved =
+    length_permutation _ names moved ∙ length-keys_of (filter (λ e. e.1 == 0) es) ∙ length-filter (λ e. e.1 == 0) es ∙ none_has es
 
 -- no name stands twice among the users
 once_in : (es : List (FileName × ℕ)) → IsDistinct same_name (keys_of es) → Apart (λ u v. u.name ≢ v.name) (map used_in es)

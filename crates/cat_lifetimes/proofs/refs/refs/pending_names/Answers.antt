@@ -8,11 +8,12 @@ use Rattle.std.proofs.lemmas.Iterator.{YieldsList-from_map, items_from_collect}
 use Rattle.std.proofs.lemmas.Iterator.Consumers.{YieldsList-at, YieldsList-from_filter, YieldsList-from_rest}
 use Rattle.std.proofs.lemmas.Result.{IfOk-at_ok}
 use Rattle.cat_directory.specs.declared.name.FileName.{FileName}
-use Rattle.cat_lifetimes.proofs.refs.Unused.{unused_are}
+use Rattle.cat_lifetimes.proofs.refs.Unused.{unused_are, unused_count}
 use Rattle.cat_lifetimes.proofs.refs.refs.pending_names.Goals as goal
 
-pub returns-clause-names : goal.returns-clause-names
-returns-clause-names c =
+-- what was collected, in another order
+moved : (c : goal.After-sort_unstable) → IsPermutation (keys_of (filter (λ (e : FileName × ℕ). e.1 == 0) c.args.users.now.entries)) c.sort_unstable.new.self.items
+moved c =
     let collected = items_from_collect _ c.collect.ensures.ran
     (YieldsList-from_map _ (λ (e : FileName × ℕ). e.0)
     (YieldsList-at c.map.ensures.source
@@ -20,8 +21,14 @@ returns-clause-names c =
     c.filter-unused.ensures.closure (λ x r q k. search (rules, tests))))
     c.map.ensures.closure (λ x r q k. search (rules, tests))) in
     let listed : vec_items c.in_ok-names.names ≡ keys_of (filter (λ (e : FileName × ℕ). e.1 == 0) c.args.users.now.entries) = IfOk-at_ok _ c.in_ok-names.was collected in
-    unused_are c.args.users.now.entries c.sort_unstable.new.self.items c.iter.ensures.unique
-    (subst (λ (l : List FileName). IsPermutation l c.sort_unstable.new.self.items) listed c.sort_unstable.ensures.permutation) c.sort_unstable.ensures.sorted
+    subst (λ (l : List FileName). IsPermutation l c.sort_unstable.new.self.items) listed c.sort_unstable.ensures.permutation
+
+pub returns-clause-names : goal.returns-clause-names
+returns-clause-names c =
+    unused_are c.args.users.now.entries c.sort_unstable.new.self.items c.iter.ensures.unique (moved c) c.sort_unstable.ensures.sorted
+
+pub returns-clause-count : goal.returns-clause-count
+returns-clause-count c = unused_count c.args.users.now.entries c.sort_unstable.new.self.items (moved c)
 
 pub returns-clause-once : goal.returns-clause-once
 returns-clause-once c = c.iter.ensures.unique
