@@ -1,5 +1,5 @@
 -- The names of the files that a prune drops, one view at a time.
-use Rattle.std.proofs.Common.{◌≡◌, ℕ, ◌+◌, ◌<◌, List, [], ◌∷◌, ◌++◌, length, get_or, take, true, false, cond, not, refl, sym, ◌∙◌, ap, append-nil, append_assoc}
+use Rattle.std.proofs.Common.{◌≡◌, ℕ, ◌+◌, ◌<◌, List, [], ◌∷◌, ◌++◌, length, get_or, take, Bool, true, false, cond, not, refl, sym, ◌∙◌, ap, ap₂, append-nil, append_assoc}
 use Rattle.std.specs.List.{filter, flat_map}
 use Rattle.std.proofs.lemmas.List.{take_more}
 use Rattle.cat_model.specs.Files.{Name}
@@ -24,5 +24,11 @@ dropped-push t (s ∷ rs) r =
       | false ↦ rest
     ]
 
-pub dropped_more : (t : ℕ) (rs : List Recorded) (i : ℕ) (d : Recorded) → i < length rs → files_dropped t (take (i + 1) rs) ≡ files_dropped t (take i rs) ++ names_dropped t (get_or rs i d)
+dropped_more : (t : ℕ) (rs : List Recorded) (i : ℕ) (d : Recorded) → i < length rs → files_dropped t (take (i + 1) rs) ≡ files_dropped t (take i rs) ++ names_dropped t (get_or rs i d)
 dropped_more t rs i d lt = ap (files_dropped t) (take_more rs i d lt) ∙ dropped-push t (take i rs) (get_or rs i d)
+
+-- so the names go on, whether or not the next view goes
+pub names_more : (t : ℕ) (rs : List Recorded) (i : ℕ) (r : Recorded) (goes : Bool) (before after : List Name) → i < length rs → r ≡ get_or rs i r
+    → goes ≡ not (is_kept_from t r) → before ≡ files_dropped t (take i rs) → after ≡ before ++ cond goes (needs r.view) [] → after ≡ files_dropped t (take (i + 1) rs)
+names_more t rs i r goes before after lt at is had has =
+    has ∙ ap₂ (λ (xs ys : List Name). xs ++ ys) had (ap (λ b. cond b (needs r.view) []) is ∙ ap (names_dropped t) at) ∙ sym (dropped_more t rs i r lt)

@@ -84,7 +84,6 @@ pub(crate) fn count_release(recorded: &mut [Recorded], token: Token)
 }
 
 /// The names of the files of the views that neither are held nor have at least this token, those of each in turn.
-#[tactic(auto, using(crate::proofs::records::Dropped::dropped_more, std::proofs::lemmas::Grind::common_steps))]
 pub(crate) fn files_below(
     alloc: Global,
     recorded: &[Recorded],
