@@ -1,7 +1,7 @@
 -- What an opened world begins with.
 use Rattle.std.proofs.Common.{◌≡◌, ℕ, List, [], ◌∷◌, ap, ap₂, append-nil, map, refl, sym, ◌∙◌, subst, inl, inr}
 use Rattle.std.specs.List.{AllByRecursion}
-use Rattle.std.specs.Prelude.{◌≢◌, ◌⊎◌, Option, Some, None, Result, Ok, Err, IfErr, IfOk, ok_or, ◌++◌}
+use Rattle.std.specs.Prelude.{◌≢◌, ◌⊎◌, Option, Some, None, Result, Ok, Err, IfErr, IfOk, IfSome, ok_or, ◌++◌}
 use Rattle.std.specs.Option.{option_map_or}
 use Rattle.cat_base.specs.declared.refusal.Refusal.{Refusal}
 use Rattle.cat_base.specs.declared.refusal.Refusal.TheVariants.{Damaged, Device, Json as NoJson, Kind, Line as NoForm, Memory}
@@ -146,7 +146,7 @@ begins_so told line factor least text schema r readable spelled read opens = Beg
 -- ---- what a refused opening counts
 
 -- a refusal that comes before the directory is asked counts nothing
-unasked : (fails : Type 0) (n : ℕ) (e : Refusal) → e ≢ Device → CountsRefusal fails n n e
+pub unasked : (fails : Type 0) (n : ℕ) (e : Refusal) → e ≢ Device → CountsRefusal fails n n e
 unasked fails n e differs = ((λ is. absurd (differs is)), λ other. refl)
 
 pub formless_unasked : (fails : Type 0) (n : ℕ) → CountsRefusal fails n n NoForm
@@ -164,10 +164,10 @@ never_failed f (Some x) is = no_failed_schema (f x) is
 device_differs : Device ≢ Memory
 device_differs = λ h. cc h
 
--- nor does one of the text of a schema
-pub schema_unasked : (fails : Type 0) (n : ℕ) (text : Text) (e : Refusal) → (e ≢ Memory → schema_of text ≡ Err e) → CountsRefusal fails n n e
-schema_unasked fails n text e refused =
-    unasked fails n e (λ is. never_failed _ (json_of text) (subst (λ x. schema_of text ≡ Err x) is (refused (λ memory. device_differs (sym is ∙ memory)))))
+-- the text of a schema isn't refused so
+pub schema_unasked : (text : Text) (e : Refusal) → (e ≢ Memory → schema_of text ≡ Err e) → e ≢ Device
+schema_unasked text e refused = λ is.
+    never_failed _ (json_of text) (subst (λ x. schema_of text ≡ Err x) is (refused (λ memory. device_differs (sym is ∙ memory))))
 
 -- what the ledger's opening counts is counted so
 pub opening_counts : (fails : Type 0) (old new : ℕ) (e : Refusal) → (e ≡ Device → fails) → OpeningCount old new e → CountsRefusal fails old new e
@@ -183,13 +183,21 @@ both_ok : {A E : Type 0} (P Q : A → Type 0) (r : Result A E) → IfOk r P → 
 both_ok P Q (Ok a) p q = (p, q)
 both_ok P Q (Err e) p q = tt
 
--- what opening a world by a text says, of the line that the text is of
+-- what opening a world by the text of a line says
 pub opens_caused : {D : Type 0} (bytes : D → ToldFiles) (may_leave : D → FileName → FileContent → Type 0) (can_fail : D → Type 0) (faults : D → ℕ)
-    (device : D) (line text : Text) (r : Result (Service D) (Unopened D)) → text ≡ line
+    (device : D) (text : Text) (r : Result (Service D) (Unopened D))
     → OpensWorld bytes may_leave device text r → IfOk r (λ w. AlwaysTells bytes → LeavesNoneAhead may_leave w.ledger)
     → IfOk r (λ w. can_fail (device_of w) → can_fail device) → IfOk r (λ w. OpensSo bytes can_fail faults device text w)
     → IfOk r (λ w. w.sets ≡ record { cached = []; noted = []; warming = None })
     → IfErr r (λ u. CountsRefusal (can_fail device) (faults device) (faults u.seed) u.refusal)
-    → OpensCaused bytes may_leave can_fail faults device (Some line) r
-opens_caused bytes may_leave can_fail faults device line text r is opens ahead can begins sets counted =
-    rw (← is) ((opens, ahead, can), both_ok (λ w. OpensSo bytes can_fail faults device text w) (λ w. w.sets ≡ record { cached = []; noted = []; warming = None }) r begins sets, counted)
+    → OpensCaused bytes may_leave can_fail faults device (Some text) r
+opens_caused bytes may_leave can_fail faults device text r opens ahead can begins sets counted =
+    ((opens, ahead, can), both_ok (λ w. OpensSo bytes can_fail faults device text w) (λ w. w.sets ≡ record { cached = []; noted = []; warming = None }) r begins sets, counted)
+
+-- a first line that can't be read opens nothing
+pub opens_unread : {D : Type 0} (bytes : D → ToldFiles) (may_leave : D → FileName → FileContent → Type 0) (can_fail : D → Type 0) (faults : D → ℕ)
+    (device : D) (line : Option Text) → IfSome line (λ l. IsReadable l → ⊥)
+    → OpensCaused bytes may_leave can_fail faults device line (Err (record { refusal = NoForm; seed = device }))
+opens_unread bytes may_leave can_fail faults device None none = refl
+opens_unread bytes may_leave can_fail faults device (Some line) none =
+    (((inr (Begins.formless (λ readable factor least text spelled. absurd (none readable))), (λ q. refl), λ q e h. h), tt, tt), tt, formless_unasked (can_fail device) (faults device))

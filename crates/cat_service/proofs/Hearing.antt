@@ -1,6 +1,6 @@
 -- What a line that was heard is answered.
 use Rattle.std.proofs.Common.{◌≡◌, ℕ, refl, sym, subst}
-use Rattle.std.specs.Prelude.{Option, Some, None}
+use Rattle.std.specs.Prelude.{Option, Some, None, IfSome}
 use Rattle.cat_model.specs.Heard.{Heard, Hears}
 use Rattle.cat_model.specs.Lines.{IsReadable, Said, ShowsSession}
 use Rattle.cat_model.specs.Run.{Command, Reply}
@@ -38,6 +38,11 @@ module _ {D : Type 0} (bytes : D → ToldFiles) (may_leave : D → FileName → 
       → StepsCaused bytes may_leave can_fail faults old (Some line) Outcome.unreadable old
   unheard line none = ((Hears.unreadable none, refl), tt)
 
+  -- a line that may be too long
+  pub unread : (line : Option Text) → IfSome line (λ l. IsReadable l → ⊥) → StepsCaused bytes may_leave can_fail faults old line Outcome.unreadable old
+  unread None none = ((refl, refl), tt)
+  unread (Some line) none = unheard line (λ readable session shows. absurd (none readable))
+
   hears : (line : Text) (session : ℕ) (said : Option Said) (c : Command) → IsReadable line → SpellsOrShows line session said
       → IsCommandOf (shape_of_service old).schema said c → Hears json (shape_of_service old).schema line (Heard.a_line (line_of session c))
   hears line session (Some said) c readable spells is = Hears.spelled session said c readable spells is
@@ -46,15 +51,15 @@ module _ {D : Type 0} (bytes : D → ToldFiles) (may_leave : D → FileName → 
       (Hears.formless session readable shows.0 shows.1)
 
   -- a line that says something, or has no form
-  pub heard_as : (new : Service D) (line text : Text) (session : ℕ) (said : Option Said) (reply : Reply) → text ≡ line → IsReadable line
-      → SpellsOrShows text session said → (steps : StepsLine bytes session said old reply new) → (shape_of_service new).schema ≡ (shape_of_service old).schema
+  pub heard_as : (new : Service D) (line : Text) (session : ℕ) (said : Option Said) (reply : Reply) → IsReadable line
+      → SpellsOrShows line session said → (steps : StepsLine bytes session said old reply new) → (shape_of_service new).schema ≡ (shape_of_service old).schema
       → NamesFiles reply → GoesBy bytes may_leave said reply old.ledger new.ledger
       → HasCause bytes can_fail faults old said reply new → TakesNumbers (shape_of_service old) (shape_of_service new) → policy_of new ≡ policy_of old
       → (can_fail (device_of new) → can_fail (device_of old)) → MakesOfSets session said old reply new → HasFewPending (shape_of_service old)
       → StepsCaused bytes may_leave can_fail faults old (Some line) (told_to session steps.0 reply) new
-  heard_as new line text session said reply same readable spells steps fields names goes cause numbers policy can sets few = (
+  heard_as new line session said reply readable spells steps fields names goes cause numbers policy can sets few = (
     (
-      hears line session said steps.0 readable (subst (λ t. SpellsOrShows t session said) same spells) steps.1,
+      hears line session said steps.0 readable spells steps.1,
       (
         fields,
         names,

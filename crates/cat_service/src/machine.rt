@@ -1,7 +1,9 @@
 //! The world of sessions as a machine: its first line opens it, and each line behind it is one step.
-ghost use Rattle.std.specs.Prelude.{Some, option_map};
+ghost use Rattle.std.specs.Prelude.{◌≡◌, Some, IfSome, IfNone, option_map};
 ghost use Rattle.cat_model.specs.Lines.{IsReadable};
 ghost use Rattle.cat_model.specs.Served.{Outcome, outcome_text};
+ghost use Rattle.cat_model.specs.Text.{Text};
+ghost use Rattle.cat_commands.specs.cat_protocol.lines.Line.{SpellsOrShows, said_of};
 ghost use Rattle.cat_commands.specs.cat_protocol.sending.Out.{Sent};
 ghost use Rattle.cat_service.specs.Reasons.{OpensCaused, StepsCaused};
 
@@ -14,6 +16,18 @@ use cat_commands::cat_protocol::serving::{Machine, Unopened, text_of};
 use cat_directory::{Directory, Shelf};
 use std::alloc::Global;
 use std::io::Write;
+
+/// The text of a line, unless it is too long or no UTF-8.
+fn text_heard(line: Option<&[u8]>) -> Option<&str>
+    ensures found { IfSome result (λ text. option_map (λ l. l.now) line.entry ≡ Some text.now) }
+    ensures readable { IfSome result (λ text. IsReadable text.now) }
+    ensures none { IfNone result (IfSome (option_map (λ l. l.now) line.entry) (λ l. IsReadable l → ⊥)) }
+{
+    match line {
+        Some(bytes) => text_of(bytes),
+        None => None,
+    }
+}
 
 impl<D: Directory + Shelf> Machine for World<D> {
     type Seed = D;
@@ -36,13 +50,10 @@ impl<D: Directory + Shelf> Machine for World<D> {
     }
 
     fn answer<W: Write>(&mut self, line: Option<&[u8]>, to: &mut W) -> Result<(), WriteFault> {
-        let Some(bytes) = line else {
-            return send_unreadable(to);
-        };
-        let Some(text) = text_of(bytes) else {
-            return send_unreadable(to);
-        };
-        self.answer_text(text, to)
+        match text_heard(line) {
+            Some(text) => self.answer_text(text, to),
+            None => send_unreadable(to),
+        }
     }
 }
 
@@ -51,13 +62,7 @@ impl<D: Directory + Shelf> World<D> {
     fn open_heard(alloc: Global, seed: D, line: Option<&[u8]>) -> Result<World<D>, Unopened<D>>
         ensures { OpensCaused D.bytes D.may_leave D.can_fail D.fault_count seed (option_map (λ l. l.now) line.entry) result }
     {
-        let Some(bytes) = line else {
-            return Err(Unopened {
-                refusal: Refusal::Line,
-                seed,
-            });
-        };
-        match text_of(bytes) {
+        match text_heard(line) {
             Some(text) => World::open(alloc, seed, text),
             None => Err(Unopened {
                 refusal: Refusal::Line,
@@ -73,13 +78,20 @@ impl<D: Directory + Shelf> World<D> {
             × Sent (W.contents to.old) (W.contents to.new) result (outcome_text told) }
     {
         match Line::read(text) {
-            Ok(line) => {
-                // What the line finds: as few files wait to be deleted as may.
-                self.newest_lasts();
-                let reply = self.step(&line);
-                send_reply(&reply, to)
-            }
+            Ok(line) => self.answer_line(&line, to),
             Err(_) => send_unreadable(to),
         }
+    }
+
+    /// Answers a line, whatever readable text it is of, and writes the reply.
+    fn answer_line<W: Write>(&mut self, line: &Line, to: &mut W) -> Result<(), WriteFault>
+        ensures { (text : Text) → IsReadable text → SpellsOrShows text line.now.session (said_of line.now.command)
+            → (told : Outcome) × StepsCaused D.bytes D.may_leave D.can_fail D.fault_count self.old (Some text) told self.new
+            × Sent (W.contents to.old) (W.contents to.new) result (outcome_text told) }
+    {
+        // What the line finds: as few files wait to be deleted as may.
+        self.newest_lasts();
+        let reply = self.step(line);
+        send_reply(&reply, to)
     }
 }

@@ -1,13 +1,17 @@
 //! Worlds that a schema line opens in a directory.
 //!
 //! Lucene's constructor of `IndexWriter` under an `IndexWriterConfig`.
-ghost use Rattle.std.specs.Prelude.{◌≡◌, [], IfErr, IfOk, None};
-ghost use Rattle.cat_model.specs.Served.{SpellsSchema};
+ghost use Rattle.std.specs.Prelude.{◌≡◌, ◌≢◌, ◌⊎◌, [], Err, IfErr, IfOk, None, Ok};
+ghost use Rattle.cat_base.specs.declared.refusal.Refusal.TheVariants.{Device, Memory};
+ghost use Rattle.cat_items.specs.Reading.{schema_of};
+ghost use Rattle.cat_ledger_laws.specs.shape.Ties.{ToldFiles};
+ghost use Rattle.cat_model.specs.Lines.{IsReadable};
+ghost use Rattle.cat_model.specs.Served.{HasSchemaText, SpellsSchema};
 ghost use Rattle.cat_model.specs.Text.{Text};
 ghost use Rattle.cat_commands.specs.cat_ledger.Histories.{LeavesNoneAhead};
 ghost use Rattle.cat_commands.specs.cat_ledger.Lasting.{AlwaysTells};
 ghost use Rattle.cat_service.specs.Reasons.{OpensSo};
-ghost use Rattle.cat_service.specs.Opening.{OpensWorld};
+ghost use Rattle.cat_service.specs.Opening.{BeginsIn, OpensWorld};
 ghost use Rattle.cat_model.specs.Reasons.{CountsRefusal};
 ghost use Rattle.cat_service.specs.Worlds.{device_of};
 
@@ -43,6 +47,33 @@ fn nothing_kept(alloc: Global) -> Result<(Filters, ReaderStates), AllocError>
     Ok((filters, states))
 }
 
+/// The policy and the schema that the line asks for, with what is kept beside a ledger that opens.
+fn asked_by(
+    alloc: Global,
+    line: &str,
+) -> Result<(MergePolicy, Schema, Filters, ReaderStates), Refusal>
+    ensures spelled { IfOk result (λ a. IsReadable line.now
+        × (text : Text) × SpellsSchema line.now a.0.factor a.0.least text × (schema_of text ≡ Ok a.1)) }
+    ensures kept { IfOk result (λ a. (a.2 ≡ record { cached = []; noted = []; warming = None }) × (a.3 ≡ [])) }
+    ensures refused { IfErr result (λ e. (told : ToldFiles) → ((e ≡ Memory) × HasSchemaText line.now) ⊎ BeginsIn told line.now (Err e)) }
+    ensures unasked { IfErr result (λ e. e ≢ Device) }
+{
+    if MAX_LINE_BYTES < line.len() {
+        return Err(Refusal::Line);
+    }
+    let Some(found) = SchemaLine::read(line) else {
+        return Err(Refusal::Line);
+    };
+    let schema = match Schema::read(alloc, found.json.as_bytes()) {
+        Ok(schema) => schema,
+        Err(refusal) => return Err(refusal),
+    };
+    let Ok((filters, states)) = nothing_kept(alloc) else {
+        return Err(Refusal::Memory);
+    };
+    Ok((policy_of(&found), schema, filters, states))
+}
+
 impl<D: Directory + Shelf> World<D> {
     /// Opens the newest commit of the directory, or an empty catalogue where there is none, under the schema that the line
     /// gives, as `SCHEMA 10 1000 {"price":"number"}`: a factor of merges (2 to 100), their minimum (1 to 100,000), and the
@@ -66,32 +97,14 @@ impl<D: Directory + Shelf> World<D> {
         ensures can { IfOk result (λ w. D.can_fail (device_of w) → D.can_fail device) }
         ensures counted { IfErr result (λ u. CountsRefusal (D.can_fail device) (D.fault_count device) (D.fault_count u.seed) u.refusal) }
     {
-        if MAX_LINE_BYTES < line.len() {
-            return Err(Unopened {
-                refusal: Refusal::Line,
-                seed: device,
-            });
-        }
-        let Some(found) = SchemaLine::read(line) else {
-            return Err(Unopened {
-                refusal: Refusal::Line,
-                seed: device,
-            });
-        };
-        let schema = match Schema::read(alloc, found.json.as_bytes()) {
-            Ok(schema) => schema,
-            Err(refusal) => return Err(Unopened {
-                refusal,
+        let (policy, schema, filters, states) = match asked_by(alloc, line) {
+            Ok(asked) => asked,
+            Err(cause) => return Err(Unopened {
+                refusal: cause,
                 seed: device,
             }),
         };
-        let Ok((filters, states)) = nothing_kept(alloc) else {
-            return Err(Unopened {
-                refusal: Refusal::Memory,
-                seed: device,
-            });
-        };
-        match Ledger::open(alloc, device, schema, policy_of(&found)) {
+        match Ledger::open(alloc, device, schema, policy) {
             Ok(ledger) => Ok(World {
                 alloc,
                 ledger,
