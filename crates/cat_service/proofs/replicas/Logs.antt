@@ -1,10 +1,12 @@
 -- A log is due by the number of writes before it and by its commands alone.
 use Rattle.std.proofs.Common.{inl, inr, ◌≡◌, ℕ, ◌+◌, List, [], ◌∷◌, ◌++◌, length, refl, sym, ◌∙◌, ap, subst, arith}
-use Rattle.std.specs.Prelude.{Option, None, Some, Ok, Err, true, false, Bool, not, ◌&&◌, IsTrue}
+use Rattle.std.specs.Prelude.{Option, None, Some, Result, Ok, Err, true, false, Bool, not, ◌&&◌, IsTrue}
 use Rattle.std.specs.List.{filter_map, cons_option}
 use Rattle.std.proofs.lemmas.List.{length-append}
 use Rattle.cat_base.specs.declared.refusal.Refusal.{Refusal}
 use Rattle.cat_base.specs.declared.refusal.Refusal.TheVariants.{Line as NoForm, Spent, Device, Memory}
+use Rattle.cat_model.specs.Item.{Item}
+use Rattle.cat_model.specs.Text.{Text}
 use Rattle.cat_model.specs.Write.{Write}
 use Rattle.cat_model.specs.Table.{Start, Opened}
 use Rattle.cat_model.specs.Run.{Command, Reply, Exchange, Run, accepted, accepted_by, writes, now, write_reply, may_refuse, Answers, Refuses, Fits, FitsFrom}
@@ -34,16 +36,24 @@ due n (c ∷ cs) = record { command = c; reply = due_reply n c } ∷ due (n + ad
 
 -- ---- one exchange
 
+put_stopped : (i : Result Item Refusal) (e : Refusal) → IsTrue (may_refuse (Command.put i) e) → is_stop (Err e) ≡ true
+put_stopped i Memory m = refl
+put_stopped i Spent m = refl
+put_stopped i Device m = refl
+put_stopped i e m = absurd (cc m)
+
+delete_stopped : (id : Result Text Refusal) (e : Refusal) → IsTrue (may_refuse (Command.delete id) e) → is_stop (Err e) ≡ true
+delete_stopped id Memory m = refl
+delete_stopped id e m = absurd (cc m)
+
+-- The commands are told apart first, and the refusals of these three alone.
 stop_said : (c : Command) (r : Reply) → asks_to_write c ≡ true → Refuses c r → is_stop r ≡ true
 stop_said c r h f = ap is_stop f.1 ∙ by c f.0 h f.2
   where
     by : (c : Command) (e : Refusal) → asks_to_write c ≡ true → IsTrue (may_refuse c e) → is_stop (Err e) ≡ true
-    by c Memory h m = refl
-    by (Command.put i) Spent h m = refl
-    by (Command.put i) Device h m = refl
-    by (Command.put i) e h m = absurd (cc m)
-    by (Command.delete id) e h m = absurd (cc m)
-    by (Command.delete_where q) e h m = absurd (cc m)
+    by (Command.put i) e h m = put_stopped i e m
+    by (Command.delete id) e h m = delete_stopped id e m
+    by (Command.delete_where q) e h m = delete_stopped (Err e) e m
     by _ e h m = absurd (cc h)
 
 answer_due : (from : Opened) (past : Run) (s : ℕ) (c : Command) (r : Reply) → asks_to_write c ≡ true → Answers from past s c r → r ≡ due_reply (now from.start past) c
