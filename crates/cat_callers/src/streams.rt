@@ -171,8 +171,12 @@ fn hand_out<I: Read, W: Write + Drop, R: Wait>(
             }
         }
         let ended = match lines.next(reader) {
-            Next::Line if pass_on(rt, lines.line(), sendings) => continue,
-            Next::Line => return Err(Fault::Thread),
+            Next::Line => {
+                if pass_on(rt, lines.line(), sendings) {
+                    continue;
+                }
+                return Err(Fault::Thread);
+            }
             Next::End => Ok(()),
             Next::Fault => Err(Fault::Read),
         };
