@@ -7,10 +7,10 @@ ghost use Rattle.cat_callers.specs.Sessions.{kept};
 ghost use Rattle.cat_callers.specs.Told.{Holds};
 
 use cat_base::{Refusal, SessionNo, Token};
-use cat_threads::cat_commands::cat_cached_sets::filters::Filters;
-use cat_threads::cat_commands::cat_lifetimes::rights::Rights;
-use cat_threads::cat_commands::cat_protocol::ReaderStates;
-use cat_threads::cat_commands::cat_protocol::replies::Answer;
+use cat_lifetimes::rights::Rights;
+use cat_threads::cat_cached_sets::filters::Filters;
+use cat_threads::cat_protocol::ReaderStates;
+use cat_threads::cat_protocol::replies::Answer;
 use std::alloc::Global;
 use std::marker::Model;
 

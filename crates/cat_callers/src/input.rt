@@ -2,9 +2,7 @@
 ghost use Rattle.std.specs.Prelude.{◌≤◌, ◌<◌, IfSome, length, vec_capacity};
 ghost use Rattle.cat_threads.specs.cat_commands.cat_protocol.declared.serving.input.TheConstants.{MAX_GATHERED};
 
-use cat_threads::cat_commands::cat_protocol::serving::{
-    MAX_GATHERED, gather, split_line, without_return,
-};
+use cat_threads::cat_protocol::serving::{MAX_GATHERED, gather, split_line, without_return};
 use std::alloc::{AllocError, Global};
 use std::io::{ErrorKind, Read};
 

@@ -10,8 +10,8 @@ ghost use Rattle.cat_callers.specs.Told.{ToldCommit, serves};
 use crate::front::Front;
 use cat_base::{Refusal, Text};
 use cat_directory::{Directory, Shelf};
-use cat_threads::cat_commands::cat_ledger::cat_ledger_state::cat_commits::judge_commit_text;
-use cat_threads::cat_commands::cat_protocol::replies::Answer;
+use cat_threads::cat_ledger::judge_commit_text;
+use cat_threads::cat_protocol::replies::Answer;
 use cat_threads::{Chore, Naming, Pass};
 use std::sync::Wait;
 

@@ -1,6 +1,6 @@
 //! Replies of several threads to one writer, each whole.
-use cat_threads::cat_commands::cat_protocol::replies::{Reply, send_reply};
-use cat_threads::cat_commands::cat_protocol::sending::{WriteFault, flush, send, send_unreadable};
+use cat_threads::cat_protocol::replies::{Reply, send_reply};
+use cat_threads::cat_protocol::sending::{WriteFault, flush, send, send_unreadable};
 use std::alloc::Global;
 use std::io::Write;
 use std::sync::{Mutex, Wait};

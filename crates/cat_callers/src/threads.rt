@@ -13,7 +13,7 @@ use crate::talking::{Talk, Told};
 use cat_base::{Refusal, SessionNo};
 use cat_directory::{Directory, Shelf};
 use cat_items::Schema;
-use cat_threads::cat_commands::cat_protocol::sending::{
+use cat_threads::cat_protocol::sending::{
     WriteFault, flush, send, send_number, send_refused, send_unreadable,
 };
 use cat_threads::running::{Gate, run_threads};

@@ -15,8 +15,8 @@ use crate::front::Front;
 use cat_base::{Refusal, Text};
 use cat_directory::{Directory, Shelf};
 use cat_items::id_ok;
-use cat_threads::cat_commands::cat_cached_sets::Query;
-use cat_threads::cat_commands::cat_protocol::replies::Answer;
+use cat_threads::cat_cached_sets::Query;
+use cat_threads::cat_protocol::replies::Answer;
 use cat_threads::{Naming, Pass, Write};
 use std::sync::Wait;
 

@@ -15,7 +15,6 @@ mod telling;
 mod unnamed;
 mod verdict;
 
-pub use cat_commits;
 pub use checked::{Checked, check};
 pub use commits::commit_below;
 pub use counts::Counts;

@@ -8,7 +8,7 @@ use cat_base::{Generation, Refusal, SegNo};
 use cat_commits::reading::read_file;
 use cat_commits::{Commit, Leaf, ListedSegment};
 use cat_directory::{FileName, Shelf};
-use cat_segment::cat_items::Schema;
+use cat_items::Schema;
 use cat_segment::{Live, Segment, decode_liv, decode_seg};
 use std::alloc::{AllocError, Global};
 use std::sync::Arc;

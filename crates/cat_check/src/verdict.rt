@@ -14,8 +14,8 @@ use cat_base::{Generation, Refusal};
 use cat_commits::Commit;
 use cat_commits::reading::{Restored, read_commit};
 use cat_directory::{FileName, Shelf};
+use cat_items::Schema;
 use cat_model::commits_are_told_by_their_bytes;
-use cat_segment::cat_items::Schema;
 use std::alloc::{AllocError, Global};
 
 /// What is judged of a commit: what an opening at it answers, under the fields that its own file says. (Lucene: `CheckIndex.Status`.)

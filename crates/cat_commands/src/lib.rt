@@ -9,6 +9,5 @@ pub mod views;
 
 pub use cat_cached_sets;
 pub use cat_ledger;
-pub use cat_ledger::cat_lifetimes;
 pub use cat_protocol;
 pub use cat_protocol::{Ask, Sort};

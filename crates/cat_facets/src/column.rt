@@ -2,7 +2,7 @@
 ghost use Rattle.std.specs.Prelude.{◌≡◌, map, [], MatchOption};
 ghost use Rattle.cat_facets.specs.Tallies.{labels_at};
 
-use cat_search::cat_segment::{Column, Labels, Segment};
+use cat_segment::{Column, Labels, Segment};
 
 /// The labels of each row in the dimension; none where the segment has no facet field of the name, and then no row has a
 /// label.

@@ -5,8 +5,8 @@ ghost use Rattle.cat_model.specs.View.{selected};
 ghost use Rattle.cat_model.specs.GlobalOrdinals.{IsOrdinalMap};
 ghost use Rattle.cat_facets.specs.Tallies.{globals_of, label_count, labelled_count, occurrences};
 
-use cat_search::cat_columns::inverted::Terms;
-use cat_search::cat_columns::{Dictionary, RowSet, SetColumn};
+use cat_columns::inverted::Terms;
+use cat_columns::{Dictionary, RowSet, SetColumn};
 use std::alloc::AllocError;
 
 /// Counts a row at the global ordinals of its ordinals. What a `usize` can't count doesn't fit in memory either.

@@ -5,8 +5,8 @@ ghost use Rattle.cat_model.specs.Page.{first_ranked};
 ghost use Rattle.cat_facets.specs.Met.{facets_by, label_comes_first, met_from, label_told};
 
 use crate::facets::{FacetCount, Facets};
+use cat_columns::Dictionary;
 use cat_search::Best;
-use cat_search::cat_columns::Dictionary;
 use std::alloc::{AllocError, Global};
 use std::cmp::Reverse;
 

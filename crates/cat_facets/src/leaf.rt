@@ -9,9 +9,9 @@ use crate::column::labels_of;
 use crate::counting::{add_all, add_rows};
 use crate::segments::SegmentLabels;
 use crate::uncounting::take_rows;
+use cat_columns::{Dictionary, RowSet, SetColumn};
 use cat_search::Leaf;
-use cat_search::cat_columns::{Dictionary, RowSet, SetColumn};
-use cat_search::cat_segment::Labels;
+use cat_segment::Labels;
 use std::alloc::{AllocError, Global};
 
 /// How many rows have a label.

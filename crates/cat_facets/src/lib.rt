@@ -15,8 +15,8 @@ mod totals;
 mod uncounting;
 mod wanted_counts;
 
-pub use cat_search;
-pub use cat_search::cat_segment;
+pub use cat_search::{Ask, Entry, Key, Page, Prepared, Sort, Wanted};
+pub use cat_segment::{live_rows_are_told_by_their_bytes, segments_are_told_by_their_bytes};
 pub use facets::{FacetCount, Facets};
 pub use limits::MAX_KEPT_STATES;
 pub use states::ReaderStates;

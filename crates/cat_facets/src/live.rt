@@ -11,9 +11,9 @@ ghost use Rattle.cat_facets.specs.Tallies.{hit_labels, labelled_count, AreCounts
 
 use crate::segments::SegmentLabels;
 use crate::totals::totals_of;
-use cat_search::cat_columns::Dictionary;
-use cat_search::cat_segment::Live;
+use cat_columns::Dictionary;
 use cat_search::{Leaf, Prepared};
+use cat_segment::Live;
 use std::alloc::{AllocError, Global};
 
 /// The counts over the live rows of segments, and which rows those are: a view has the same counts where the same rows are

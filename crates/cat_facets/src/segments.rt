@@ -7,8 +7,8 @@ ghost use Rattle.cat_facets.specs.Tallies.{leaf_labels};
 
 use crate::column::labels_of;
 use cat_base::Text;
+use cat_columns::Dictionary;
 use cat_search::Leaf;
-use cat_search::cat_columns::Dictionary;
 use std::alloc::{AllocError, Global};
 
 /// What is kept of a segment.

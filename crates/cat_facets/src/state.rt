@@ -13,7 +13,7 @@ use crate::live::{LiveCounts, count_live};
 use crate::segments::{SegmentLabels, all_known, union_of};
 use crate::totals::totals_of;
 use cat_base::Text;
-use cat_search::cat_columns::Dictionary;
+use cat_columns::Dictionary;
 use cat_search::{Prepared, View};
 use std::alloc::{AllocError, Global};
 use std::marker::Model;

@@ -7,7 +7,7 @@ ghost use Rattle.cat_facets.specs.Tallies.{hit_labels, labelled_count, leaf_labe
 
 use crate::leaf::add_leaf;
 use crate::segments::SegmentLabels;
-use cat_search::cat_columns::Dictionary;
+use cat_columns::Dictionary;
 use cat_search::{Leaf, Prepared};
 use std::alloc::{AllocError, Global};
 

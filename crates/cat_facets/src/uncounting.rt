@@ -5,7 +5,7 @@ ghost use Rattle.cat_model.specs.View.{selected};
 ghost use Rattle.cat_model.specs.GlobalOrdinals.{IsOrdinalMap};
 ghost use Rattle.cat_facets.specs.Tallies.{globals_of, label_count, labelled_count, occurrences};
 
-use cat_search::cat_columns::{Dictionary, RowSet, SetColumn};
+use cat_columns::{Dictionary, RowSet, SetColumn};
 
 /// Takes a row out of the counts at the global ordinals of its ordinals.
 fn take_row(totals: &mut [usize], globals: &[u32], ordinals: &[u32])

@@ -9,8 +9,8 @@ ghost use Rattle.cat_search.specs.cat_items.Kinds.{field_kind_of};
 ghost use Rattle.cat_facets.specs.States.{IsDimensionOf};
 
 use cat_base::{MAX_PAGE, Refusal};
+use cat_items::{Kind, kind_of};
 use cat_search::View;
-use cat_search::cat_items::{Kind, kind_of};
 use std::marker::Model;
 use std::snapshot::Snapshot;
 

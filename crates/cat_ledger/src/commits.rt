@@ -28,9 +28,7 @@ use crate::ledger::Ledger;
 use crate::room::flush;
 use cat_base::{Generation, LAST_NUMBER, Refusal};
 use cat_directory::{Directory, Shelf};
-use cat_ledger_state::Core;
-use cat_ledger_state::cat_commits::judge_commit_text;
-use cat_ledger_state::cat_commits::writing::needed_are_synced;
+use cat_ledger_state::{Core, judge_commit_text, needed_are_synced};
 
 /// Flushes what waits, and then keeps a commit of now. A generation is left for it.
 fn flush_and_commit<D: Directory>(

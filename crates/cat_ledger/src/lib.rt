@@ -13,8 +13,7 @@ pub mod upkeep;
 mod views;
 mod writes;
 
-pub use cat_ledger_state;
-pub use cat_ledger_state::cat_lifetimes;
+pub use cat_ledger_state::{Hold, Query, judge_commit_text};
 pub use ledger::Ledger;
 pub use opening::NotOpened;
 pub use telling::{SegmentStat, Stat};

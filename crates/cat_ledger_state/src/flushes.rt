@@ -24,7 +24,7 @@ use cat_directory::{Directory, FileName, write_file};
 use cat_lifetimes::refs::FileRefs;
 use cat_live_table::buffer::{Buffer, Sealed};
 use cat_live_table::current::Current;
-use cat_merge::cat_segment::{Live, encode_seg};
+use cat_merge::{Live, encode_seg};
 use std::alloc::{AllocError, Global};
 use std::sync::Arc;
 

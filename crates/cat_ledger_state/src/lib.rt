@@ -17,10 +17,9 @@ mod users;
 mod views;
 mod writes;
 
-pub use cat_commits;
-pub use cat_commits::{Hold, Leaf, View};
-pub use cat_lifetimes;
+pub use cat_commits::writing::needed_are_synced;
+pub use cat_commits::{Hold, Leaf, View, judge_commit_text};
 pub use cat_live_table::Query;
-pub use cat_merge;
+pub use cat_merge::window;
 pub use opening::known_names;
 pub use state::Core;

@@ -4,5 +4,5 @@
 pub mod buffer;
 pub mod current;
 
+pub use cat_items::{Item, Schema};
 pub use cat_query::Query;
-pub use cat_query::cat_items::{Item, Schema};

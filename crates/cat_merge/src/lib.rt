@@ -26,7 +26,8 @@ mod settling;
 mod sources;
 mod word_column;
 
-pub use cat_views::{Leaf, cat_segment};
+pub use cat_views::Leaf;
+pub use cat_views::cat_segment::{Live, encode_seg};
 pub use input::Input;
 pub use merge::Merge;
 pub use policy::{level_of, window};

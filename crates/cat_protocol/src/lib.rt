@@ -7,5 +7,7 @@ pub mod replies;
 pub mod sending;
 pub mod serving;
 
-pub use cat_facets::cat_search::{Ask, Page, Prepared, Sort, Wanted};
-pub use cat_facets::{Facets, ReaderStates, WantedCounts, cat_segment};
+pub use cat_facets::{
+    Ask, Facets, Page, Prepared, ReaderStates, Sort, Wanted, WantedCounts,
+    live_rows_are_told_by_their_bytes, segments_are_told_by_their_bytes,
+};

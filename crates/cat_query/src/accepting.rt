@@ -10,8 +10,8 @@ ghost use Rattle.cat_query.specs.Tests.{passes};
 
 use crate::query::{Clause, Primary, Query, Sign, Test};
 use cat_base::{Text, TextSet};
-use cat_segment::cat_columns::inverted::{is_from, is_up_to};
-use cat_segment::cat_items::{FieldValue, Item};
+use cat_columns::inverted::{is_from, is_up_to};
+use cat_items::{FieldValue, Item};
 
 impl Query {
     /// Whether the item matches each `+` clause and no `-` clause and, where there is no `+` clause, some clause without

@@ -2,7 +2,7 @@
 ghost use Rattle.std.specs.Prelude.{◌≡◌, ◌^◌, ◌<◌, length, count_by, IfOk};
 ghost use Rattle.cat_model.specs.RowSets.{has_row, indices};
 
-use cat_segment::cat_columns::{RowSet, Rows};
+use cat_columns::{RowSet, Rows};
 use std::alloc::AllocError;
 use std::marker::Model;
 

@@ -20,7 +20,6 @@ mod scanning;
 mod values;
 
 pub use accepting::{is_at_least, is_at_most};
-pub use cat_segment::{cat_columns, cat_items};
 pub use doc_set::DocSet;
 pub use query::Query;
 pub use ranges::NumberRange;

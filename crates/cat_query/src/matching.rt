@@ -11,8 +11,8 @@ ghost use Rattle.cat_query.specs.Tests.{passes};
 use crate::doc_set::DocSet;
 use crate::query::{Clause, Primary, Query, Sign, Test};
 use cat_base::Text;
-use cat_segment::cat_columns::RowSet;
-use cat_segment::cat_columns::inverted::Terms;
+use cat_columns::RowSet;
+use cat_columns::inverted::Terms;
 use cat_segment::{Column, Keywords, Labels, Numbers, Segment};
 use std::alloc::{AllocError, Global};
 

@@ -15,7 +15,7 @@ use crate::runs::{all_word_bytes, only_run};
 use crate::scanning::behind;
 use crate::values::Value;
 use cat_base::Text;
-use cat_segment::cat_items::{Kind, lowered};
+use cat_items::{Kind, lowered};
 use std::alloc::{AllocError, Global};
 
 /// What was built, unless memory was refused.

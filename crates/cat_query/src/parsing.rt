@@ -11,7 +11,7 @@ use crate::meaning::Built;
 use crate::query::{Clause, Query};
 use crate::reading::content;
 use cat_base::{MAX_CLAUSES, MAX_DEPTH, Refusal};
-use cat_segment::cat_items::{Field, Schema};
+use cat_items::{Field, Schema};
 use std::alloc::Global;
 
 fn clauses(alloc: Global, fields: &[Field], text: &str) -> Result<Built<Vec<Clause>>, usize>

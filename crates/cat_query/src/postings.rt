@@ -11,7 +11,7 @@ ghost use Rattle.cat_query.specs.View.{query_of, tested};
 use crate::matching::sole_primary;
 use crate::query::{Primary, Query, Test};
 use cat_base::Text;
-use cat_segment::cat_columns::inverted::Terms;
+use cat_columns::inverted::Terms;
 use cat_segment::{Column, Keywords, Labels, Segment};
 
 fn word_postings<'a>(test: &Test, terms: &'a Terms) -> Option<&'a [u32]>

@@ -10,7 +10,7 @@ use crate::meaning::{Built, field_test, test};
 use crate::query::{Clause, Primary, Sign};
 use crate::scanning::{behind, behind_all, name, without_spaces};
 use crate::values::read_value;
-use cat_segment::cat_items::{Field, kind_of};
+use cat_items::{Field, kind_of};
 use std::alloc::Global;
 
 fn term<'a>(

@@ -4,7 +4,7 @@ ghost use Rattle.std.specs.List.{list_all};
 ghost use Rattle.cat_model.specs.Words.{is_word_byte, lowered, words};
 ghost use Rattle.cat_query.specs.Runs.{only, same_lowered};
 
-use cat_segment::cat_items::is_word_byte;
+use cat_items::is_word_byte;
 
 /// Whether the bytes are word bytes alone.
 pub(crate) fn all_word_bytes(bytes: &[u8]) -> bool

@@ -6,7 +6,7 @@ ghost use Rattle.cat_model.specs.Grammar.{is_bare_byte};
 ghost use Rattle.cat_model.specs.Reader.{after_spaces};
 ghost use Rattle.cat_query.specs.Reading.{behind_byte, behind_mark};
 
-use cat_segment::cat_items::is_name_byte;
+use cat_items::is_name_byte;
 
 /// What stands behind the mark, a character of ASCII, where the text begins with it.
 pub(crate) fn behind(text: &str, mark: char) -> Option<&str>

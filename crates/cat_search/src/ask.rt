@@ -13,7 +13,7 @@ use crate::mark_rows::mark_in_leaves;
 use crate::sort::{Order, Sort};
 use crate::standings::Candidate;
 use cat_base::{MAX_PAGE, Refusal, WriteNo};
-use cat_query::cat_items::Schema;
+use cat_items::Schema;
 use cat_views::View;
 
 /// What is asked of a page, beside its query (Lucene: the other arguments of `IndexSearcher.searchAfter`).

@@ -16,7 +16,7 @@ use crate::number_bar::NumberBar;
 use crate::offers::offer_hit;
 use crate::sort::Order;
 use crate::standings::Candidate;
-use cat_query::cat_columns::{NumberColumn, RowSet};
+use cat_columns::{NumberColumn, RowSet};
 use std::alloc::AllocError;
 
 /// How many of 64 rows have to be hits for a test of all 64 numbers to be worth it. It takes as long as looks at 45 hits do: some

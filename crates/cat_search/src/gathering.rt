@@ -26,7 +26,7 @@ use crate::ranges::{count_live, offer_range, rows_in_order};
 use crate::sort::Order;
 use crate::standings::{Candidate, Rank};
 use crate::walk::Reach;
-use cat_query::cat_columns::RowSet;
+use cat_columns::RowSet;
 use cat_query::{DocSet, Query};
 use cat_views::Leaf;
 use cat_views::cat_segment::{Live, Segment};

@@ -5,7 +5,7 @@ ghost use Rattle.cat_search.specs.Hits.{hit_rows};
 
 use crate::in_range::InRange;
 use crate::listed::Listed;
-use cat_query::cat_columns::RowSet;
+use cat_columns::RowSet;
 use cat_views::Leaf;
 use std::alloc::{AllocError, Global};
 

@@ -7,7 +7,7 @@ ghost use Rattle.cat_search.specs.Rows.{leaf_hits};
 ghost use Rattle.cat_views.specs.cat_segment.Ranges.{lies_between};
 
 use crate::ranges::count_live;
-use cat_query::cat_columns::RowSet;
+use cat_columns::RowSet;
 use cat_query::{Query, is_at_least, is_at_most};
 use cat_views::Leaf;
 use cat_views::cat_segment::{Column, Numbers};

@@ -15,8 +15,8 @@ ghost use Rattle.cat_search.specs.Walks.{IsWalk, IsWalkWhere, ranked_number};
 use crate::keys::KeyRef;
 use crate::sort::{Order, OrderField, rank_with};
 use crate::standings::Candidate;
-use cat_query::cat_columns::{KeywordColumn, NumberColumn};
-use cat_query::cat_items::Schema;
+use cat_columns::{KeywordColumn, NumberColumn};
+use cat_items::Schema;
 use cat_views::cat_segment::{Column, RowParts, Segment};
 use std::marker::Model;
 

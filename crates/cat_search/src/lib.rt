@@ -27,8 +27,7 @@ mod walk;
 
 pub use ask::{Ask, Wanted};
 pub use best::Best;
-pub use cat_query::{cat_columns, cat_items};
-pub use cat_views::{Leaf, View, cat_segment};
+pub use cat_views::{Leaf, View};
 pub use entries::{Entry, Page};
 pub use keys::Key;
 pub use prepared::{Prepared, views_show_records};

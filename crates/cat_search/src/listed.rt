@@ -7,8 +7,8 @@ ghost use Rattle.cat_query.specs.View.{query_of};
 ghost use Rattle.cat_search.specs.Rows.{leaf_hits};
 
 use crate::ranges::count_live;
+use cat_columns::RowSet;
 use cat_query::Query;
-use cat_query::cat_columns::RowSet;
 use cat_views::Leaf;
 use cat_views::cat_segment::Live;
 use std::alloc::{AllocError, Global};

@@ -11,7 +11,7 @@ use crate::ends::Ends;
 use crate::keys::KeyRef;
 use crate::sort::Order;
 use crate::standings::Candidate;
-use cat_query::cat_columns::NumberColumn;
+use cat_columns::NumberColumn;
 use cat_query::{is_at_least, is_at_most};
 
 /// Between which numbers a row may come into the page, both included; an absent end is open.

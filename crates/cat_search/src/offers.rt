@@ -18,7 +18,7 @@ use crate::number_bar::NumberRows;
 use crate::ordinal_bar::KeywordRows;
 use crate::standings::Candidate;
 use crate::walk::{Reach, offer_walk, steps_behind};
-use cat_query::cat_columns::RowSet;
+use cat_columns::RowSet;
 use cat_views::cat_segment::Live;
 use std::alloc::{AllocError, Global};
 

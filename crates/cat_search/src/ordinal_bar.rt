@@ -12,7 +12,7 @@ use crate::keys::KeyRef;
 use crate::sort::Order;
 use crate::standings::Candidate;
 use cat_base::Text;
-use cat_query::cat_columns::{Dictionary, KeywordColumn};
+use cat_columns::{Dictionary, KeywordColumn};
 
 /// From which ordinal on, and up to before which, a row of one segment may come into the page.
 ///

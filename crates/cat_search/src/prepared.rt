@@ -16,7 +16,7 @@ use crate::ask::{Ask, Wanted};
 use crate::entries::Page;
 use crate::gathering::{first_entries, hits_of, set_at};
 use cat_base::Refusal;
-use cat_query::cat_columns::RowSet;
+use cat_columns::RowSet;
 use cat_query::{DocSet, Query};
 use cat_views::View;
 use std::alloc::{AllocError, Global};

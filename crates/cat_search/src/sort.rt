@@ -10,7 +10,7 @@ ghost use Rattle.cat_search.specs.Sorts.{IsOrderOf, IsSortField, can_sort_by, so
 use crate::keys::KeyRef;
 use crate::standings::Rank;
 use cat_base::Refusal;
-use cat_query::cat_items::{Kind, Schema, index_of};
+use cat_items::{Kind, Schema, index_of};
 use std::cmp::Reverse;
 
 /// How the hits of a page are sorted (Lucene: `Sort`). A name is a field's, and no schema has been looked at.

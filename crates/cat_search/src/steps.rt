@@ -5,7 +5,7 @@ ghost use Rattle.cat_views.specs.cat_segment.RowParts.{parts_of, rows_of_parts};
 ghost use Rattle.cat_model.specs.RowSets.{has_row};
 ghost use Rattle.cat_search.specs.Steps.{IsBehindMisses, IsNextRow, rows_of_parts_from};
 
-use cat_query::cat_columns::RowSet;
+use cat_columns::RowSet;
 use cat_views::cat_segment::RowParts;
 use std::marker::Model;
 

@@ -24,8 +24,7 @@ mod sorted_numbers;
 mod sources;
 
 pub use assembly::{assemble, assemble_runs};
-pub use cat_columns;
-pub use cat_items;
+pub use cat_items::Schema;
 pub use column::{Column, Keywords, Labels};
 pub use decoding::{decode_seg, segments_are_told_by_their_bytes};
 pub use encoding::encode_seg;

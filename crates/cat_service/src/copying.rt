@@ -1,7 +1,7 @@
 //! The law of backups.
 ghost use Rattle.cat_service.specs.Copies.{CopiesOpenAlike};
 
-use cat_commands::cat_protocol::cat_segment::{
+use cat_commands::cat_protocol::{
     live_rows_are_told_by_their_bytes, segments_are_told_by_their_bytes,
 };
 use cat_model::commits_are_told_by_their_bytes;

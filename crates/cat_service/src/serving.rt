@@ -8,10 +8,10 @@ ghost use Rattle.cat_commands.specs.cat_protocol.serving.Serving.{ended_as};
 ghost use Rattle.cat_service.specs.Serving.{StageLasts, StageOutlives, device_at};
 
 use crate::world::World;
-use cat_commands::cat_protocol::cat_segment::{
+use cat_commands::cat_protocol::serving::{ServeFault, Stage, serve_machine};
+use cat_commands::cat_protocol::{
     live_rows_are_told_by_their_bytes, segments_are_told_by_their_bytes,
 };
-use cat_commands::cat_protocol::serving::{ServeFault, Stage, serve_machine};
 use cat_directory::{Directory, Shelf};
 use cat_ledger_laws::lines::refused_are_found;
 use std::alloc::Global;

@@ -8,7 +8,7 @@ ghost use Rattle.cat_service.specs.theorem.Merges.{MergesGoOn};
 ghost use Rattle.cat_service.specs.theorem.MissingSets.{MissingSetsAreTold};
 ghost use Rattle.cat_service.specs.theorem.Openings.{DirectoriesOpenOneWay};
 
-use cat_commands::cat_protocol::cat_segment::{
+use cat_commands::cat_protocol::{
     live_rows_are_told_by_their_bytes, segments_are_told_by_their_bytes,
 };
 use cat_directory::{Directory, Shelf};

@@ -1,9 +1,9 @@
 //! What may go from one thread to another: the view of a hold, and what a write brings. That a ledger may, each crate asks that starts
 //! threads over one.
 use cat_base::Text;
+use cat_items::Item;
 use cat_query::Query;
 use cat_search::View;
-use cat_search::cat_items::Item;
 use std::test::*;
 
 fn goes<T: Send>() {}

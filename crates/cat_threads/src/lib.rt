@@ -7,5 +7,5 @@ pub mod running;
 pub mod service;
 pub mod sharing;
 
-pub use cat_commands;
+pub use cat_commands::{Ask, cat_cached_sets, cat_ledger, cat_protocol, searches};
 pub use service::{Begun, Chore, Naming, Noted, Outcome, Pass, Service, Write};

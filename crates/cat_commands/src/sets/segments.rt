@@ -2,7 +2,7 @@
 ghost use Rattle.cat_commands.specs.sets.SegmentLaws.{CurrentAreAmong, SegmentsAreOne, SegmentsStay};
 ghost use Rattle.cat_commands.specs.sets.KeptLaws.{RecordedAreAmong};
 
-use cat_protocol::cat_segment::segments_are_told_by_their_bytes;
+use cat_protocol::segments_are_told_by_their_bytes;
 
 /// Whatever line is answered, a segment that is there afterwards was there before, or has a number that none has had.
 ///

@@ -10,8 +10,7 @@ ghost use Rattle.cat_ledger_laws.specs.lines.PlanLaws.{sizes_in, live_sets_in};
 
 use crate::upkeep::policy::MergePolicy;
 use cat_base::MAX_ROWS;
-use cat_ledger_state::Leaf;
-use cat_ledger_state::cat_merge::window;
+use cat_ledger_state::{Leaf, window};
 use std::alloc::{AllocError, Global};
 
 /// How many rows each of the segments has, deleted ones counted.

@@ -14,8 +14,8 @@ ghost use Rattle.cat_live_table.specs.buffer.Buffered.{IsBuffered, most_buffered
 
 use crate::buffer::record::Record;
 use cat_base::{MAX_BUFFERED_ITEMS, SegNo, WriteNo};
+use cat_items::{Item, Schema};
 use cat_query::Query;
-use cat_query::cat_items::{Item, Schema};
 use cat_views::cat_segment::{Row, Segment};
 use indexmap::IndexMap;
 use std::alloc::{AllocError, Global};

@@ -2,7 +2,7 @@
 ghost use Rattle.std.specs.Prelude.{◌≡◌};
 
 use cat_base::WriteNo;
-use cat_query::cat_items::Item;
+use cat_items::Item;
 use std::marker::Model;
 
 /// An item that waits for a flush, under the number of the write that put it (Lucene: a document in the buffer, under its

@@ -7,7 +7,7 @@ ghost use Rattle.cat_model.specs.View.{selected};
 ghost use Rattle.cat_live_table.specs.current.Places.{PlacedId, placed_id_of, standing_in, placed_in_turn, moved_at, moved_in_turn, forgotten};
 
 use cat_base::SegNo;
-use cat_query::cat_columns::RowSet;
+use cat_columns::RowSet;
 use cat_views::Leaf;
 use std::alloc::{AllocError, Global};
 use std::collections::HashMap;

@@ -9,8 +9,8 @@ ghost use Rattle.cat_live_table.specs.current.Places.{forgotten};
 ghost use Rattle.cat_live_table.specs.current.Removals.{removed_from, lost};
 
 use crate::current::places::{Place, forget};
+use cat_columns::RowSet;
 use cat_query::Query;
-use cat_query::cat_columns::RowSet;
 use cat_views::Leaf;
 use std::alloc::{AllocError, Global};
 use std::collections::HashMap;

@@ -8,7 +8,7 @@ ghost use Rattle.cat_protocol.specs.lines.Words.{SpellsFind};
 use crate::lines::sort::split_sort;
 use crate::lines::words::{split_mark, split_number};
 use cat_base::{Token, WriteNo};
-use cat_facets::cat_search::Sort;
+use cat_facets::Sort;
 
 /// What a FIND asks for, as it came (Lucene: the arguments of `IndexSearcher.searchAfter`).
 #[derive(Clone, Copy)]

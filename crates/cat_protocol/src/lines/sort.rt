@@ -6,8 +6,8 @@ ghost use Rattle.cat_model.specs.Lines.{IsSort, sort_text};
 ghost use Rattle.cat_facets.specs.cat_search.Sorts.{sort_of};
 
 use crate::lines::words::split_word;
-use cat_facets::cat_search::Sort;
-use cat_facets::cat_search::cat_items::has_name_form;
+use cat_facets::Sort;
+use cat_items::has_name_form;
 
 /// The sort that the name spells behind `+`.
 fn rising(name: &str) -> Option<Sort<'_>>

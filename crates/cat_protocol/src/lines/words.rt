@@ -7,7 +7,7 @@ ghost use Rattle.cat_model.specs.Lines.{IsNumber, mark_text};
 ghost use Rattle.cat_protocol.specs.lines.Words.{HasNoSpace};
 
 use cat_base::{WriteNo, parse_number};
-use cat_facets::cat_search::cat_items::has_name_form;
+use cat_items::has_name_form;
 
 /// The text before the first space, and the text behind it.
 pub(crate) fn split_word(text: &str) -> Option<(&str, &str)>

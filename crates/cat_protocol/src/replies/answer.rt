@@ -3,8 +3,7 @@
 use crate::replies::news::News;
 use cat_base::Text;
 use cat_directory::FileName;
-use cat_facets::Facets;
-use cat_facets::cat_search::Page;
+use cat_facets::{Facets, Page};
 
 /// What stands behind `OK`, and on the further lines.
 pub enum Answer {

@@ -14,8 +14,7 @@ use crate::replies::words::{Word, put_behind_space, put_first, put_last, put_lin
 use crate::sending::{Gathered, WriteFault};
 use cat_base::SessionNo;
 use cat_directory::FileName;
-use cat_facets::cat_search::{Entry, Key, Page};
-use cat_facets::{FacetCount, Facets};
+use cat_facets::{Entry, FacetCount, Facets, Key, Page};
 use itoa::Buffer;
 use std::io::Write;
 

@@ -21,7 +21,7 @@ use crate::plain::record::Record;
 use crate::plain::recorded::RecordedTable;
 use crate::plain::reply::{Answer, Reply};
 use cat_base::{MAX_LINE_BYTES, Refusal, WriteNo};
-use cat_search::cat_items::Schema;
+use cat_items::Schema;
 use cat_service::cat_protocol::lines::{Command, Line, SchemaLine};
 use std::alloc::{AllocError, Global};
 use std::marker::Model;

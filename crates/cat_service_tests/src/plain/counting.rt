@@ -13,9 +13,9 @@ ghost use Rattle.cat_search.specs.cat_query.View.{query_of};
 use crate::plain::counts::{Counts, LabelCount};
 use crate::plain::record::Record;
 use cat_base::{Text, TextSet};
+use cat_items::{FieldValue, Item};
 use cat_query::Query;
 use cat_search::Best;
-use cat_search::cat_items::{FieldValue, Item};
 use std::alloc::{AllocError, Global};
 use std::cmp::Reverse;
 

@@ -3,7 +3,7 @@ ghost use Rattle.std.specs.Prelude.{◌≡◌, IfOk};
 ghost use Rattle.std.specs.Arc.{arc_value};
 
 use cat_base::WriteNo;
-use cat_search::cat_items::Item;
+use cat_items::Item;
 use std::alloc::AllocError;
 use std::marker::Model;
 use std::sync::Arc;

@@ -8,8 +8,7 @@ ghost use Rattle.cat_ledger_laws.specs.lines.RefusalLaws.{command_of};
 ghost use Rattle.cat_threads.specs.service.Writes.{PutsForeign, write_of};
 
 use cat_base::{Refusal, Text, WriteNo};
-use cat_commands::cat_ledger::Ledger;
-use cat_commands::cat_ledger::cat_ledger_state::Query;
+use cat_commands::cat_ledger::{Ledger, Query};
 use cat_directory::{Directory, Shelf};
 use cat_items::Item;
 

@@ -12,7 +12,7 @@ use crate::plain::catalogue::Plain;
 use crate::plain::counting::counts_in;
 use crate::plain::reply::Answer;
 use cat_base::{MAX_PAGE, Refusal, SessionNo, Token};
-use cat_search::cat_items::{Kind, Schema, kind_of};
+use cat_items::{Kind, Schema, kind_of};
 use std::alloc::AllocError;
 
 /// Whether one counts over fields of the kind.

@@ -9,7 +9,7 @@ use crate::plain::catalogue::Plain;
 use crate::plain::reply::Answer;
 use crate::plain::tables::source_of;
 use cat_base::{Refusal, SessionNo, Token};
-use cat_search::cat_items::id_ok;
+use cat_items::id_ok;
 use std::alloc::AllocError;
 
 impl Plain {

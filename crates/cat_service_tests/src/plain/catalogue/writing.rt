@@ -18,8 +18,8 @@ use crate::plain::record::Record;
 use crate::plain::reply::Answer;
 use crate::plain::tables::{remove_hits, remove_id};
 use cat_base::{LAST_NUMBER, Refusal, WriteNo};
+use cat_items::{Item, id_ok};
 use cat_query::Query;
-use cat_search::cat_items::{Item, id_ok};
 use std::sync::Arc;
 
 impl Plain {
