@@ -2,13 +2,13 @@
 use denote.Param.Send.{IsSend, IsSync, sendable}
 use Rattle.std.proofs.Crossing.{crosses}
 use Rattle.cat_base.specs.contracts.text.TextSet as TextSet
+use Rattle.cat_columns.specs.contracts.Dictionary as Dictionary
+use Rattle.cat_columns.specs.contracts.inverted.Terms as Terms
 use Rattle.cat_commands.specs.cat_cached_sets.cat_views.cat_segment.contracts.column.Column as Column
 use Rattle.cat_commands.specs.cat_cached_sets.cat_views.cat_segment.contracts.column.Keywords as Keywords
 use Rattle.cat_commands.specs.cat_cached_sets.cat_views.cat_segment.contracts.column.Labels as Labels
 use Rattle.cat_commands.specs.cat_cached_sets.cat_views.cat_segment.contracts.numbers.Numbers as Numbers
 use Rattle.cat_commands.specs.cat_cached_sets.cat_views.cat_segment.contracts.segment.Segment as Segment
-use Rattle.cat_commands.specs.cat_cached_sets.cat_views.cat_segment.contracts.cat_columns.Dictionary as Dictionary
-use Rattle.cat_commands.specs.cat_cached_sets.cat_views.cat_segment.contracts.cat_columns.inverted.Terms as Terms
 use Rattle.cat_commands.specs.cat_cached_sets.cat_views.cat_segment.cat_items.contracts.schema.Schema as Schema
 
 ruleset base = (sendable, crosses)
