@@ -51,13 +51,18 @@ class Ahead:
         """Begins what is due, where there is room for it."""
         found = self.gate.look(self.sources.below(*self.left))
         self.left = {it: waits for it, waits in self.left.items() if it not in found}
-        for crate in [it for it in self.left if all(name in found for name in self.sources.below(it)[:-1])]:
+        for crate in [it for it in self.left if self.waits_for_nothing(it, found)]:
             is_of_tests = crate.endswith("_tests")
             self.left[crate] = 0 if self.is_being_proved(crate) else self.left[crate] + 1
             is_due = is_of_tests or self.left[crate] > WAITS
             if is_due and sum(it.endswith("_tests") == is_of_tests for it in self.running) < LANES and kit.memory() > ROOM:
                 del self.left[crate]
                 self.begin(crate, ["nice", "-n", "19"] if is_of_tests else [])
+
+    def waits_for_nothing(self, crate, found):
+        """Whether all libraries below the crate are kept. One that has none is the first that the other run proves, once it has read all sources."""
+        below = self.sources.below(crate)[:-1]
+        return bool(below) and all(it in found for it in below)
 
     def is_being_proved(self, crate):
         """Whether a run of `rt ci` is at the proof of this crate, whose libraries are kept: it holds a lock then."""
@@ -74,7 +79,9 @@ class Ahead:
     def begin(self, crate, priority):
         said = tempfile.TemporaryFile("w+", errors="replace")
         words = [*priority, "rt", "ci", crate]
-        child = subprocess.Popen(words, stdin=subprocess.DEVNULL, stdout=said, stderr=subprocess.STDOUT, env={**os.environ, "TMPDIR": self.room})
+        # One job: `rt ci` would take the processors that the other run uses for idle, and a second job costs a third more of one.
+        given = {**os.environ, "TMPDIR": self.room, "RT_JOBS": "1"}
+        child = subprocess.Popen(words, stdin=subprocess.DEVNULL, stdout=said, stderr=subprocess.STDOUT, env=given)
         self.running[crate] = child, said
 
     def tell_ended(self):

@@ -110,7 +110,8 @@ def main():
                 idle = lanes - sum(jobs for _, jobs in running.values())
                 if idle < 1:
                     break
-                jobs = max(1, min(4, idle // (len(ready) - at)))
+                # What doesn't divide goes to the longest chain, which stands first.
+                jobs = min(4, -(-idle // (len(ready) - at)))
                 left.remove(name)
                 running[pool.submit(work, name, jobs)] = name, jobs
             if not running:

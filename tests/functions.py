@@ -219,8 +219,22 @@ def can_be_copied(crate, room, unit):
     if own.is_dir() and any(it.name not in ANSWERS for it in own.iterdir()):
         return False
     paths = {proof_path(unit), *(it.path for it in cycle_with(room, unit))}
-    others = [it.read_text(encoding="utf-8") for part in ("specs", "proofs", "src") for it in sorted((room / part).glob("**/*.*t")) if it.parent != own]
-    return not any(path_in_proofs(crate, path).search(it) for path in paths for it in others)
+    return not any(is_named(crate, path, own.relative_to(room)) for path in paths)
+
+
+@lru_cache(maxsize=1)
+def texts_of(crate):
+    """The folder and the text of each specification, proof and source of the crate as it stands, read once for all of its edits."""
+    top = TOP / "crates" / crate
+    files = [it for part in ("specs", "proofs", "src") for it in sorted((top / part).glob("**/*.*t"))]
+    return [(it.parent.relative_to(top), it.read_text(encoding="utf-8")) for it in files]
+
+
+def is_named(crate, path, own):
+    """Whether a file of the crate that isn't in this folder names the function's own modules."""
+    name, named = path.replace("::", "."), path_in_proofs(crate, path)
+    # Most files have nothing of the name, which is found sooner than that the pattern fits nowhere.
+    return any(name in text and named.search(text) for folder, text in texts_of(crate) if folder != own)
 
 
 def proof_path(unit):
