@@ -5,7 +5,6 @@ ghost use Rattle.cat_base.specs.Texts.{sorted_set, IsTextSet};
 use arrayvec::ArrayString;
 use std::alloc::{AllocError, Global};
 use std::cmp::Ordering;
-use std::fmt;
 use std::marker::Model;
 
 /// Texts of at most so many bytes lie in the value itself: most words, labels and ids. They take no memory of their own, and
@@ -158,22 +157,6 @@ impl PartialOrd for Text {
     }
 }
 
-impl fmt::Display for Text {
-    ghost use Rattle.std.specs.Prelude.{Some};
-
-    ghost output = { λ t. Some t };
-
-    fn fmt<W: fmt::Write>(&self, f: &mut fmt::Formatter<W>) -> fmt::Result {
-        fmt::Display::fmt(self.as_str(), f)
-    }
-}
-
-impl fmt::Debug for Text {
-    fn fmt<W: fmt::Write>(&self, f: &mut fmt::Formatter<W>) -> fmt::Result {
-        fmt::Debug::fmt(self.as_str(), f)
-    }
-}
-
 /// A set of texts, each once. Contracts see it as the list of its texts in byte order.
 pub struct TextSet {
     texts: Vec<Text>,
@@ -239,13 +222,6 @@ impl TextSet {
         self.texts.len()
     }
 
-    /// Whether there is no text.
-    pub fn is_empty(&self) -> bool
-        ensures { IsTrue result ↔ (self.now ≡ []) }
-    {
-        self.texts.is_empty()
-    }
-
     /// Whether the text is in the set, by binary search.
     pub fn contains(&self, text: &str) -> bool
         ensures { IsTrue result ↔ Contains self.now text.now }
@@ -253,17 +229,6 @@ impl TextSet {
         self.texts
             .binary_search_by(|other| other.as_str().cmp(text))
             .is_ok()
-    }
-
-    /// An equal set in memory of its own.
-    pub fn copy(&self) -> Result<Self, AllocError>
-        ensures ok { IfOk result (λ t. t ≡ self.now) }
-    {
-        let mut texts = Vec::with_capacity(*self.texts.allocator(), self.texts.len())?;
-        for text in &self.texts {
-            texts.push(text.copy()?)?;
-        }
-        Ok(TextSet { texts })
     }
 }
 

@@ -8,12 +8,10 @@ use Rattle.std.proofs.lemmas.List.Kept.{Contains-dedup, Contains-from_dedup}
 use Rattle.std.proofs.lemmas.List.Sorted.{Contains-permutation, IsPermutation-refl, IsPermutation-sym, IsPermutation-cons, IsPermutation-middle, IsPermutation-trans, IsPermutation-map}
 use Rattle.std.proofs.lemmas.Slice.Eq.{bytes_eq-Decides}
 use Rattle.std.specs.Borrow.{Bor}
-use Rattle.std.specs.Cmp.{IsEquivalence}
 use Rattle.std.specs.Cmp.Lexicographic.{pointwise, nat_list_eq_equiv}
 use Rattle.std.specs.List.{flat_map, dedup, dedup_from}
 use Rattle.std.specs.List.Sorted.{IsPermutation}
 use Rattle.std.specs.Prelude.{Contains, IfOk, ◌↔◌, Vec}
-use Rattle.itertools.specs.List as kit
 use Rattle.itertools.specs.List.{merge_at, merge_by}
 use Rattle.cat_base.specs.Texts.{sorted_set}
 use Rattle.cat_base.proofs.TextSets.{sorted_set_members, sorted_set_only, IsTextSet-sorted_set}
@@ -49,56 +47,46 @@ merge_permutes first [] ys = IsPermutation-refl ys
 merge_permutes first (x ∷ xs) ys = merge_at_permutes first x xs (merge_by first xs) (merge_permutes first xs) ys
 
 -- what is dropped behind references is what is dropped of the texts
-abbrev same_as_kept : Text → Text → Bool
-same_as_kept text kept = pointwise nat_eq kept text
+abbrev same_texts : Text → Text → Bool
+same_texts text kept = pointwise nat_eq text kept
 
-abbrev seen_as_kept : Bor Text → Bor Text → Bool
-seen_as_kept text kept = same_as_kept text.now kept.now
+abbrev same_seen : Bor Text → Bor Text → Bool
+same_seen text kept = same_texts text.now kept.now
 
-seen_kept_from : (kept : Bor Text) (xs : List (Bor Text)) → seen (dedup_from seen_as_kept kept xs) ≡ dedup_from same_as_kept kept.now (seen xs)
+seen_kept_from : (kept : Bor Text) (xs : List (Bor Text)) → seen (dedup_from same_seen kept xs) ≡ dedup_from same_texts kept.now (seen xs)
 seen_kept_from kept [] = refl
-seen_kept_from kept (x ∷ xs) = elim (cases_Bool (same_as_kept x.now kept.now)) [
+seen_kept_from kept (x ∷ xs) = elim (cases_Bool (same_texts x.now kept.now)) [
   | inl same ↦ rw same (seen_kept_from kept xs)
   | inr other ↦ rw other (ap (λ (l : List Text). kept.now ∷ l) (seen_kept_from x xs))
 ]
 
-seen_kept : (xs : List (Bor Text)) → seen (dedup seen_as_kept xs) ≡ dedup same_as_kept (seen xs)
+seen_kept : (xs : List (Bor Text)) → seen (dedup same_seen xs) ≡ dedup same_texts (seen xs)
 seen_kept [] = refl
 seen_kept (x ∷ xs) = seen_kept_from x xs
 
-same_either_way : IsEquivalence same_as_kept
-same_either_way = record {
-  refl = nat_list_eq_equiv.refl;
-  symm = λ x y. nat_list_eq_equiv.symm y x;
-  congr = λ x y z e. nat_list_eq_equiv.symm z x ∙ nat_list_eq_equiv.congr x y z (nat_list_eq_equiv.symm x y ∙ e) ∙ nat_list_eq_equiv.symm y z;
-}
-
-exact : (x y : Text) → same_as_kept x y ≡ true → x ≡ y
-exact x y e = sym ((bytes_eq-Decides y x).0 e)
-
 -- each text once has the same texts
-kept_have_same : (xs : List Text) → HaveSame (dedup same_as_kept xs) xs
-kept_have_same xs t = (λ h. Contains-from_dedup same_as_kept xs t h, λ h. Contains-dedup same_either_way exact xs t h)
+kept_have_same : (xs : List Text) → HaveSame (dedup same_texts xs) xs
+kept_have_same xs t = (λ h. Contains-from_dedup same_texts xs t h, λ h. Contains-dedup nat_list_eq_equiv (λ x y e. (bytes_eq-Decides x y).0 e) xs t h)
 
 -- the texts of two lists that are merged, without doubles
-merged_have_same : (first : Bor Text → Bor Text → Bool) (left right : List (Bor Text)) → HaveSame (seen (kit.dedup (λ x y. pointwise nat_eq x.now y.now) (merge_by first left right))) (seen left ++ seen right)
+merged_have_same : (first : Bor Text → Bor Text → Bool) (left right : List (Bor Text)) → HaveSame (seen (dedup same_seen (merge_by first left right))) (seen left ++ seen right)
 merged_have_same first left right t =
     let whole : IsPermutation (seen left ++ seen right) (seen (merge_by first left right)) =
     subst (λ (l : List Text). IsPermutation l (seen (merge_by first left right))) (map-append (λ (t : Bor Text). t.now) left right)
     (IsPermutation-map (λ (t : Bor Text). t.now) (left ++ right) (merge_by first left right) (merge_permutes first left right)) in
-    let kept : seen (kit.dedup (λ x y. pointwise nat_eq x.now y.now) (merge_by first left right)) ≡ dedup same_as_kept (seen (merge_by first left right)) = seen_kept (merge_by first left right) in
+    let kept : seen (dedup same_seen (merge_by first left right)) ≡ dedup same_texts (seen (merge_by first left right)) = seen_kept (merge_by first left right) in
     let same = kept_have_same (seen (merge_by first left right)) t in (
       λ h. Contains-permutation (seen (merge_by first left right)) (seen left ++ seen right) t (IsPermutation-sym (seen left ++ seen right) (seen (merge_by first left right)) whole)
           (same.0 (subst (λ (l : List Text). Contains l t) kept h)),
       λ h. subst (λ (l : List Text). Contains l t) (sym kept) (same.1 (Contains-permutation (seen left ++ seen right) (seen (merge_by first left right)) t whole h)),
     )
 
--- and where they are added to none
-pub taken_have_same : (first : Bor Text → Bor Text → Bool) (left right none xs all : List (Bor Text)) → none ≡ [] → xs ≡ kit.dedup (λ x y. pointwise nat_eq x.now y.now) (merge_by first left right) → all ≡ none ++ xs
-    → HaveSame (seen all) (seen left ++ seen right)
-taken_have_same first left right none xs all empty kept added =
-    let is : all ≡ kit.dedup (λ x y. pointwise nat_eq x.now y.now) (merge_by first left right) = added ∙ ap (λ (l : List (Bor Text)). l ++ xs) empty ∙ kept in
-    subst (λ (l : List (Bor Text)). HaveSame (seen l) (seen left ++ seen right)) (sym is) (merged_have_same first left right)
+-- and where they are added to none, and the doubles dropped
+pub taken_have_same : (first : Bor Text → Bor Text → Bool) (left right none xs all kept : List (Bor Text)) → none ≡ [] → xs ≡ merge_by first left right → all ≡ none ++ xs → kept ≡ dedup same_seen all
+    → HaveSame (seen kept) (seen left ++ seen right)
+taken_have_same first left right none xs all kept empty merged added dropped =
+    let is : all ≡ merge_by first left right = added ∙ ap (λ (l : List (Bor Text)). l ++ xs) empty ∙ merged in
+    subst (λ (l : List (Bor Text)). HaveSame (seen l) (seen left ++ seen right)) (sym (dropped ∙ ap (dedup same_seen) is)) (merged_have_same first left right)
 
 -- a part that is joined with those behind it
 pub part_joined : (front below part all whole : List Text) → HaveSame all (below ++ part) → HaveSame ((front ++ below) ++ part) whole → HaveSame (front ++ all) whole

@@ -27,8 +27,9 @@ fn merged<'a>(
     ensures ok { IfOk result (λ v. HaveSame (map (λ t. t.now) v.items) (map (λ t. t.now) left.now ++ map (λ t. t.now) right.now)) }
 {
     let mut all = Vec::with_capacity(alloc, left.len() + right.len())?;
-    let texts = left.iter().copied().merge(right.iter().copied());
-    all.extend(texts.dedup())?;
+    all.extend(left.iter().copied().merge(right.iter().copied()))?;
+    // Not dropped on the way: an adaptor about the merge costs more proof than all else here.
+    all.dedup();
     Ok(all)
 }
 

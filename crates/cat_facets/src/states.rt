@@ -104,14 +104,6 @@ impl ReaderStates {
         })
     }
 
-    /// How many states are kept.
-    pub fn len(&self) -> usize
-        ensures value { result ≡ length self.now }
-        ensures most { result ≤ most_kept }
-    {
-        self.states.len()
-    }
-
     /// The counts that are wanted, over the hits of the query. The state of the view's segments is the last used then; it is made
     /// where none is kept, and the least recently used goes where there are too many. An error also where the view has 2^32
     /// labels or more.

@@ -55,19 +55,6 @@ impl FieldValue {
             }
         }
     }
-
-    /// The same value once more.
-    pub fn copy(&self) -> Result<FieldValue, AllocError>
-        ensures { IfOk result (λ v. v ≡ self.now) }
-    {
-        match self {
-            FieldValue::Words(set) => Ok(FieldValue::Words(set.copy()?)),
-            FieldValue::Keyword(None) => Ok(FieldValue::Keyword(None)),
-            FieldValue::Keyword(Some(text)) => Ok(FieldValue::Keyword(Some(text.copy()?))),
-            FieldValue::Number(number) => Ok(FieldValue::Number(*number)),
-            FieldValue::Labels(set) => Ok(FieldValue::Labels(set.copy()?)),
-        }
-    }
 }
 
 // Whether the field is the item's own, and the value is of its kind.
@@ -75,18 +62,6 @@ fn is_had(field: &Field, own: &Field, value: &FieldValue) -> bool
     ensures { IsTrue result ↔ IsHad field.now own.now value.now }
 {
     own.name() == field.name() && value.is_of(field.kind())
-}
-
-// The same values once more.
-fn copied(alloc: Global, values: &[FieldValue]) -> Result<Vec<FieldValue>, AllocError>
-    ensures { IfOk result (λ v. v.items ≡ values.now) }
-{
-    let mut out = Vec::with_capacity(alloc, values.len())?;
-    for value in values {
-        let one = value.copy()?;
-        out.push(one)?;
-    }
-    Ok(out)
 }
 
 /// An item as it was put: its id, what it has in each field, and the text that it was read from. Lucene's `Document`,
@@ -202,22 +177,5 @@ impl Item {
         ensures size { IsSourceLength (length self.now.source) }
     {
         self.source.as_slice()
-    }
-
-    /// The same item once more.
-    pub fn copy(&self) -> Result<Item, AllocError>
-        ensures { IfOk result (λ i. i ≡ self.now) }
-    {
-        let alloc = *self.values.allocator();
-        let values = copied(alloc, self.values.as_slice())?;
-        let id = self.id.copy()?;
-        let source = Vec::from_slice(alloc, self.source.as_slice())?;
-        let fields = Arc::try_clone(&self.fields)?;
-        Ok(Item {
-            fields,
-            id,
-            values,
-            source,
-        })
     }
 }

@@ -76,13 +76,6 @@ impl<D: Directory + Shelf> Ledger<D> {
         self.core.leaves()
     }
 
-    /// When it merges.
-    pub fn policy(&self) -> MergePolicy
-        ensures { result ≡ policy_in self.now }
-    {
-        self.policy
-    }
-
     /// What always holds of it, for a caller's proof; it does nothing. Its device and its memory stand for a ledger of the
     /// model. And a crash at this moment leaves each file that the newest commit needs byte for byte as the directory tells of
     /// it, where such directories always tell of their files: the newest commit is the last one that was answered, or else

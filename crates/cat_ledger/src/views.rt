@@ -53,22 +53,6 @@ pub struct Released {
     token: Token,
 }
 
-impl Released {
-    /// The session that gave it back.
-    pub fn session(&self) -> SessionNo
-        ensures { result ≡ released_session self.now }
-    {
-        self.session
-    }
-
-    /// The token of the view.
-    pub fn token(&self) -> Token
-        ensures { result ≡ released_token self.now }
-    {
-        self.token
-    }
-}
-
 /// Whether a view of now isn't recorded, and can't be: each view is held, and no more may be recorded.
 fn is_refused(core: &Core) -> bool
     ensures { result ≡ (not (list_any (λ v. v.token == core.now.count) core.now.views)

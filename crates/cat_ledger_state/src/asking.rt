@@ -48,13 +48,6 @@ impl Core {
         self.buffer.len()
     }
 
-    /// Whether nothing waits.
-    pub fn is_flushed(&self) -> bool
-        ensures { IsTrue result ↔ (self.now.buffered ≡ []) }
-    {
-        self.buffer.is_empty()
-    }
-
     /// Whether as many items wait as may, so that a flush has to come before the next put.
     pub fn is_due(&self) -> bool
         ensures { IsTrue result ↔ (buffer_limit ≤ length self.now.buffered) }
@@ -74,13 +67,6 @@ impl Core {
         ensures { result ≡ length self.now.views }
     {
         self.records.len()
-    }
-
-    /// The number that the next segment gets: one above the last number where none is left.
-    pub fn next_segment(&self) -> SegNo
-        ensures { result ≡ self.now.next_segment }
-    {
-        self.next_segment
     }
 
     /// The generation that the next commit gets: one above the last number where none is left.
@@ -143,13 +129,6 @@ impl Core {
     {
         let merge = self.merging.as_ref()?;
         Some(merge.passed())
-    }
-
-    /// How many users the file of the name has: segments that stand, recorded views, kept commits, and a merge.
-    pub fn users(&self, name: FileName) -> u64
-        ensures { result ≡ users_of self.now.users (name_of name) }
-    {
-        self.refs.count(name)
     }
 
     /// How many files are pending, which nobody needs: a sweep deletes them.

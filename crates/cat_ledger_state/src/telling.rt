@@ -10,13 +10,6 @@ use cat_base::Generation;
 use cat_commits::Commit;
 
 impl Core {
-    /// The newest commit, if one is kept (Lucene: `SegmentInfos.getLastCommitGeneration`).
-    pub fn newest(&self) -> Option<Generation>
-        ensures { result ≡ newest_generation self.now.commits }
-    {
-        newest_of(&self.commits)
-    }
-
     /// The commit of the generation, if it is kept: its text, and the names of the files that it needs (Lucene: an `IndexCommit`
     /// with its `getUserData` and `getFileNames`).
     pub fn commit_at(&self, generation: Generation) -> Option<&Commit>

@@ -37,36 +37,6 @@ impl DocSet {
         DocSet { rows }
     }
 
-    /// How many rows the segment has, matched or not.
-    pub fn len(&self) -> usize
-        ensures value { result ≡ length self.now }
-        ensures few { length self.now < 2 ^ 32 }
-    {
-        self.rows.len()
-    }
-
-    /// Whether the row matches (`Bits.get`).
-    pub fn contains(&self, row: usize) -> bool
-        requires { row < length self.now }
-        ensures { result ≡ has_row self.now row }
-    {
-        self.rows.contains(row)
-    }
-
-    /// How many rows match, deleted ones too (`DocIdSetIterator.cost`).
-    pub fn count(&self) -> usize
-        ensures { result ≡ count_by (λ b. b) self.now }
-    {
-        self.rows.count()
-    }
-
-    /// The rows that match, rising (`DocIdSet.iterator`).
-    pub fn iter(&self) -> Rows<'_>
-        ensures { result ≡ indices self.now }
-    {
-        self.rows.iter()
-    }
-
     /// The rows that match, as a set of rows to join with others.
     pub fn rows(&self) -> &RowSet
         ensures { result.now ≡ self.now }
@@ -80,13 +50,5 @@ impl DocSet {
     {
         let DocSet { rows } = self;
         rows
-    }
-
-    /// An equal set in memory of its own.
-    pub fn copy(&self) -> Result<Self, AllocError>
-        ensures ok { IfOk result (λ s. s ≡ self.now) }
-    {
-        let rows = self.rows.copy()?;
-        Ok(DocSet { rows })
     }
 }

@@ -60,13 +60,6 @@ impl<D: Directory + Shelf> World<D> {
         self.ledger.count()
     }
 
-    /// The fields of the items.
-    pub fn schema(&self) -> &Schema
-        ensures { result.now ≡ (shape_of_service self.now).schema }
-    {
-        self.ledger.schema()
-    }
-
     /// What always holds of it, for a caller's proof; it does nothing. A crash at this moment leaves each file of the newest
     /// commit byte for byte as the directory tells of it, where such directories always tell of their files. And no more files
     /// wait to be deleted than the numbers name that were given out.

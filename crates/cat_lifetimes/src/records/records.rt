@@ -130,16 +130,6 @@ impl Records {
         self.holds.contains(&HeldToken::new(session, token))
     }
 
-    /// Whether some session holds the token.
-    pub fn is_held(&self, token: Token) -> bool
-        ensures { result ≡ held_in self.now.holds token }
-    {
-        match recorded_under(&self.recorded, token) {
-            Some(recorded) => recorded.is_held(),
-            None => false,
-        }
-    }
-
     /// Whether as many views are recorded as may be, and each is held, so that none can be recorded.
     pub fn is_full(&self) -> bool
         ensures { result ≡ is_full (held_in self.now.holds) (tokens_of self.now.views) }

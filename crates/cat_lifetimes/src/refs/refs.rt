@@ -53,13 +53,6 @@ impl FileRefs {
         }
     }
 
-    /// How many users the name has: 0 also where it isn't known. (Lucene: `RefCount.count`.)
-    pub fn count(&self, name: FileName) -> u64
-        ensures { result ≡ users_of self.now (name_of name) }
-    {
-        self.users.get(&name).copied().unwrap_or(0)
-    }
-
     /// How many names are pending: known, and without a user.
     pub fn pending(&self) -> u64
         ensures count { result ≡ count_by (λ u. u.users == 0) self.now }

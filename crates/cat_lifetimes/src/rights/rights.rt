@@ -59,22 +59,6 @@ impl Rights {
         }
     }
 
-    /// How many rights there are, less than 2^63.
-    pub fn len(&self) -> usize
-        ensures len { result ≡ length self.now }
-        ensures small { result < 2 ^ 63 }
-        ensures apart { AreRightsApart self.now }
-    {
-        self.holds.len()
-    }
-
-    /// Whether there is none.
-    pub fn is_empty(&self) -> bool
-        ensures { result ≡ eqb (length self.now) 0 }
-    {
-        self.len() == 0
-    }
-
     /// The session's right to the view of the token; none where it has none, whoever else has one.
     pub fn get(&self, session: SessionNo, token: Token) -> Option<&Hold>
         ensures { option_map (λ h. h.now) result ≡ right_of self.now session token }

@@ -84,13 +84,6 @@ impl Buffer {
         })
     }
 
-    /// The fields of the items.
-    pub fn schema(&self) -> &Schema
-        ensures { result.now ≡ self.now.schema }
-    {
-        &self.schema
-    }
-
     /// How many items wait, 0 to [`MAX_BUFFERED_ITEMS`](cat_base::MAX_BUFFERED_ITEMS) (Lucene: `getNumDocsInRAM`).
     pub fn len(&self) -> usize
         ensures len { result ≡ length self.now.records }
@@ -112,13 +105,6 @@ impl Buffer {
         ensures { IsTrue result ↔ (most_buffered ≤ length self.now.records) }
     {
         self.entries.len() >= MAX_BUFFERED_ITEMS
-    }
-
-    /// The item of the id, if it waits, under its number.
-    pub fn get(&self, id: &str) -> Option<&Record>
-        ensures { option_map (λ r. r.now) result ≡ find (λ r. same_text id.now r.item.id) self.now.records }
-    {
-        self.entries.get(id)
     }
 
     /// Puts the item last, and takes the one of its id out, if there is one (Lucene: `IndexWriter.updateDocument`). An

@@ -119,13 +119,6 @@ impl Current {
         copies_of(self.alloc, &self.leaves)
     }
 
-    /// Whether a live row has the id, which takes one look.
-    pub fn contains(&self, id: &str) -> bool
-        ensures { result ≡ has_live_id id.now self.now }
-    {
-        self.places.contains_key(id)
-    }
-
     /// Makes the live row of the id dead, if there is one, which takes one look and one kill (Lucene:
     /// `IndexWriter.deleteDocuments` by a term). An error changes nothing.
     pub fn delete(&mut self, id: &str) -> Result<(), AllocError>

@@ -88,20 +88,6 @@ impl Outcome {
         Outcome { chore, answer }
     }
 
-    /// The chore.
-    pub fn chore(&self) -> &Chore
-        ensures { result.now ≡ chore_done self.now }
-    {
-        &self.chore
-    }
-
-    /// What the line of the chore is answered, where session 0 says it: an answer, or the number of a refusal.
-    pub fn answer(&self) -> &Result<Answer, Refusal>
-        ensures { result.now ≡ answer_told self.now }
-    {
-        &self.answer
-    }
-
     /// The answer alone, of which there is no copy.
     pub fn into_answer(self) -> Result<Answer, Refusal>
         ensures { result ≡ answer_told self }
