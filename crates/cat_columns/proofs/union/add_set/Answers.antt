@@ -1,5 +1,6 @@
-use Rattle.std.proofs.Common.{◌++◌, List, map, ap, ◌∙◌, subst}
+use Rattle.std.proofs.Common.{◌++◌, List, map, ap, ◌∙◌, subst, arith}
 use Rattle.std.specs.Borrow.{Bor}
+use Rattle.std.proofs.lemmas.Grind.{elements}
 use Rattle.cat_model.specs.Text.{Text}
 use Rattle.cat_columns.specs.Merged.{HaveSame, texts_in}
 use Rattle.cat_columns.proofs.Merged.{set_added, texts_in-push}
@@ -16,3 +17,6 @@ returns c = record {
       (subst (λ (l : List Text). HaveSame (seen c.in_ok-part.part.items) (seen c.in_ok-small.small.items ++ l)) c.in_ok-texts_of.ensures.ok c.in_ok-part.ensures.ok)
       (subst (λ (l : List (Bor Text)). HaveSame (texts_in c.settled.new.parts.items ++ seen c.in_ok-small.small.items) (texts_in c.args.parts.now.items ++ seen l)) c.new.ensures.items c.in_ok-small.ensures.ok);
 }
+
+pub returns-then-is_empty : goal.returns-then-is_empty
+returns-then-is_empty c = grind (arith, elements)

@@ -2,6 +2,7 @@ use Rattle.std.proofs.Common.{ℕ, ◌<◌, ◌∙◌, length, length-drop, ap, 
 use Rattle.std.proofs.lemmas.Str.{IsUtf8-drop}
 use Rattle.cat_items.proofs.RunSteps.{front_of, boundary_after_run, boundary_after_skip, words_more}
 use Rattle.std.proofs.lemmas.List.Elements.{All-same, All-push}
+use Rattle.std.proofs.lemmas.Grind.{common_steps}
 use Rattle.cat_model.specs.Forms.{IsWord}
 use Rattle.cat_items.proofs.LoweredRuns.{IsWord-run, All-sorted_set}
 use Rattle.cat_items.proofs.analysis.words.Goals as goal
@@ -26,3 +27,6 @@ loop-rest-preserved c =
 
 pub returns-clause-forms : goal.returns-clause-forms
 returns-clause-forms c = All-same IsWord _ _ c.of.ensures (All-sorted_set IsWord _ c.loop-rest.invariant.forms)
+
+pub returns-clause-ok : goal.returns-clause-ok
+returns-clause-ok c = grind (arith, common_steps)

@@ -1,5 +1,6 @@
-use Rattle.std.proofs.Common.{IsUtf8, ◌∙◌, ap}
+use Rattle.std.proofs.Common.{IsUtf8, ◌∙◌, ap, arith}
 use Rattle.std.proofs.lemmas.List.Elements.{All-same, All-push}
+use Rattle.std.proofs.lemmas.Grind.{common_steps}
 use Rattle.cat_items.proofs.LabelSteps.{label_taken, label_passed}
 use Rattle.cat_items.proofs.LoweredRuns.{All-sorted_set}
 use Rattle.cat_items.proofs.assembly.label_set.Goals as goal
@@ -20,3 +21,6 @@ loop-label-preserved c =
 
 pub returns-clause-utf8 : goal.returns-clause-utf8
 returns-clause-utf8 c = All-same IsUtf8 _ _ c.of.ensures (All-sorted_set IsUtf8 _ c.loop-label.invariant.utf8)
+
+pub returns-clause-ok : goal.returns-clause-ok
+returns-clause-ok c = grind (arith, common_steps)

@@ -1,4 +1,5 @@
-use Rattle.std.proofs.Common.{◌∙◌, sym, ap, length}
+use Rattle.std.proofs.Common.{◌∙◌, sym, ap, length, arith}
+use Rattle.std.proofs.lemmas.Grind.{elements}
 use Rattle.cat_ledger_state.proofs.Flushing.{leaf_made}
 use Rattle.cat_ledger_state.proofs.flushes.new_segment.Goals as goal
 
@@ -8,3 +9,6 @@ returns-clause-leaf c =
     c.new-leaf.ensures
     ∙ leaf_made c.args.number c.len.result c.args.buffer.now.schema c.args.buffer.now.records _ _ (segment ∙ c.in_ok-segment.ensures.segment)
     (c.in_ok-new-2.ensures.ok ∙ c.in_ok-live.ensures.ok) (c.len.ensures.same ∙ ap (λ s. length s.rows) (sym segment))
+
+pub new-leaf-requires : goal.new-leaf-requires
+new-leaf-requires c = grind (arith, elements)

@@ -1,4 +1,5 @@
-use Rattle.std.proofs.Common.{◌++◌, [], ◌∷◌, Bool, filter, not, ◌∙◌, ap}
+use Rattle.std.proofs.Common.{◌++◌, [], ◌∷◌, Bool, filter, not, ◌∙◌, ap, arith}
+use Rattle.std.proofs.lemmas.Grind.{elements}
 use Rattle.cat_model.specs.CommitFile.{CommitFile}
 use Rattle.cat_ledger_laws.specs.shape.Shapes.{names_of_commits}
 use Rattle.cat_ledger_state.specs.Commits.{stays_with}
@@ -11,3 +12,6 @@ loop-commit-preserved c =
     c.in_ok-add_leaving.ensures
     ∙ ap (λ l. l ++ names_of_commits (filter goes (c.commit-item.result ∷ []))) c.loop-commit.invariant
     ∙ leaving_more goes c.args.commits.now c.loop-commit.commit-index c.commit-item.result c.loop-commit-test.true c.commit-item.is
+
+pub returns : goal.returns
+returns c = grind (arith, elements)

@@ -1,4 +1,5 @@
-use Rattle.std.proofs.Common.{◌≡◌, ◌∙◌, true, ap, subst}
+use Rattle.std.proofs.Common.{◌≡◌, ◌∙◌, true, ap, subst, arith}
+use Rattle.std.proofs.lemmas.Grind.{elements}
 use Rattle.cat_model.specs.Write.{Write}
 use Rattle.cat_ledger_laws.specs.model.Leaves.{has_live_id, leaves_after}
 use Rattle.cat_ledger_state.proofs.Writing.{put_undone}
@@ -16,3 +17,6 @@ returns-in-Err-clause-waits c =
 pub returns-clause-killed : goal.returns-clause-killed
 returns-clause-killed c =
     c.in_default.ensures.ok ∙ ap (λ t. leaves_after (Write.delete t) c.args.current.now) (c.deref.ensures ∙ c.in_ok-id.ensures.ok ∙ c.id.ensures.value)
+
+pub pop-requires : goal.pop-requires
+pop-requires c = grind (arith, elements)

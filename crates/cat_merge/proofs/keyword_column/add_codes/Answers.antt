@@ -1,6 +1,7 @@
 use Rattle.std.proofs.lemmas.List.{append-nil}
 use Rattle.std.proofs.lemmas.Result.{IfOk-from_err}
 use Rattle.std.proofs.Common.{◌++◌, ◌∷◌, [], ℕ, get_or, None, sym, ap, ◌∙◌, arith}
+use Rattle.std.proofs.lemmas.Grind.{elements}
 use Rattle.cat_model.specs.Layout.{code_in}
 use Rattle.cat_merge.specs.Coded.{moved_code}
 use Rattle.cat_columns.specs.Columns.{DictionaryHas}
@@ -43,3 +44,9 @@ loop-row-init c = sym (append-nil c.args.codes.now.items)
 
 pub returns-in_err-push : goal.returns-in_err-push
 returns-in_err-push c = IfOk-from_err _ _ c.from_residual.ensures.0
+
+pub is_live-requires : goal.is_live-requires
+is_live-requires c = grind (arith, elements)
+
+pub returns : goal.returns
+returns c = grind (arith, elements)

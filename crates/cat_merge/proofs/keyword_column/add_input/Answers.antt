@@ -1,5 +1,6 @@
-use Rattle.std.proofs.Common.{◌≡◌, ◌++◌, map, refl, sym, ap, ap₂, ◌∙◌, subst}
+use Rattle.std.proofs.Common.{◌≡◌, ◌++◌, map, refl, sym, ap, ap₂, ◌∙◌, subst, arith}
 use Rattle.std.specs.Prelude.{All}
+use Rattle.std.proofs.lemmas.Grind.{elements}
 use Rattle.cat_model.specs.Layout.{code_in}
 use Rattle.cat_columns.specs.Columns.{DictionaryHas}
 use Rattle.cat_model.specs.Item.{Content, keyword_in}
@@ -25,3 +26,6 @@ returns c =
     on_ok c.add_codes.result (c.add_codes.new.codes.items ≡ c.args.codes.now.items ++ map (code_in c.args.words.now) (selected c.live.result.now c.values-values.result.now))
     (c.add_codes.new.codes.items ≡ c.args.codes.now.items ++ map (code_in c.args.words.now) (selected c.args.input.now.live (keywords_under c.args.index c.args.input.now.segment.rows)))
     c.add_codes.ensures (λ e. e ∙ ap (λ l. c.args.codes.now.items ++ map (code_in c.args.words.now) l) same)
+
+pub add_codes-requires-clause-long : goal.add_codes-requires-clause-long
+add_codes-requires-clause-long c = grind (arith, elements)

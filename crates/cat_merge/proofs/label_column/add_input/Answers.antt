@@ -1,5 +1,6 @@
-use Rattle.std.proofs.Common.{◌≡◌, ◌++◌, map, refl, sym, ap, ap₂, ◌∙◌, subst}
+use Rattle.std.proofs.Common.{◌≡◌, ◌++◌, map, refl, sym, ap, ap₂, ◌∙◌, subst, arith}
 use Rattle.std.specs.Prelude.{All}
+use Rattle.std.proofs.lemmas.Grind.{elements}
 use Rattle.std.specs.Prelude.{Contains}
 use Rattle.cat_model.specs.Layout.{ordinal_in}
 use Rattle.cat_model.specs.Item.{Content, labels_in}
@@ -25,3 +26,6 @@ returns c =
     on_ok c.add_rows.result (c.add_rows.new.rows ≡ c.args.rows.now ++ map (map (ordinal_in c.args.words.now)) (selected c.live.result.now c.labels-labels.result.now))
     (c.add_rows.new.rows ≡ c.args.rows.now ++ map (map (ordinal_in c.args.words.now)) (selected c.args.input.now.live (labels_under c.args.index c.args.input.now.segment.rows)))
     c.add_rows.ensures (λ e. e ∙ ap (λ l. c.args.rows.now ++ map (map (ordinal_in c.args.words.now)) l) same)
+
+pub add_rows-requires-clause-long : goal.add_rows-requires-clause-long
+add_rows-requires-clause-long c = grind (arith, elements)

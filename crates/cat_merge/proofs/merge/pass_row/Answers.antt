@@ -3,6 +3,7 @@ use Rattle.std.specs.List.{flat_map}
 use Rattle.std.proofs.Math.Seq.{take-append_seam}
 use Rattle.std.proofs.lemmas.List.{take_all}
 use Rattle.std.proofs.lemmas.Result.{IfOk-from_err}
+use Rattle.std.proofs.lemmas.Grind.{elements}
 use Rattle.cat_merge.specs.Copied.{bytes_in, no_row}
 use Rattle.cat_merge.proofs.RowPassed.{no_head, no_source, one_head, one_source}
 use Rattle.cat_merge.proofs.merge.pass_row.Goals as goal
@@ -86,3 +87,6 @@ pub returns-in_ok-add_source-clause-within : goal.returns-in_ok-add_source-claus
 returns-in_ok-add_source-clause-within c = λ are.
     c.in_ok-add_source.ensures.within c.args.inputs.now are
     (c.args.place.input, c.index-inputs-place.result, c.requires.input, sym c.index-inputs-place.is, sym c.segment-then-is_live.ensures)
+
+pub returns-in_err-push-clause-front : goal.returns-in_err-push-clause-front
+returns-in_err-push-clause-front c = grind (arith, elements)

@@ -1,4 +1,5 @@
-use Rattle.std.proofs.Common.{◌≡◌, ◌++◌, refl, sym, ap, ap₂, ◌∙◌}
+use Rattle.std.proofs.Common.{◌≡◌, ◌++◌, refl, sym, ap, ap₂, ◌∙◌, arith}
+use Rattle.std.proofs.lemmas.Grind.{elements}
 use Rattle.cat_model.specs.Item.{Content, number_in}
 use Rattle.cat_model.specs.View.{selected}
 use Rattle.cat_views.specs.cat_segment.Contents.{contents_of}
@@ -15,3 +16,6 @@ returns c =
     on_ok c.add_numbers.result (c.add_numbers.new.numbers.items ≡ c.args.numbers.now.items ++ selected c.live.result.now c.values.result.now)
     (c.add_numbers.new.numbers.items ≡ c.args.numbers.now.items ++ selected c.args.input.now.live (numbers_under c.args.index c.args.input.now.segment.rows))
     c.add_numbers.ensures (λ e. e ∙ ap₂ (λ a b. c.args.numbers.now.items ++ selected a b) c.live.ensures.value told)
+
+pub add_numbers-requires : goal.add_numbers-requires
+add_numbers-requires c = grind (arith, elements)

@@ -1,4 +1,5 @@
 use Rattle.std.proofs.Common.{arith, inl, inr}
+use Rattle.std.proofs.lemmas.Grind.{elements}
 use Rattle.cat_merge.proofs.Runs.{begins_at, grows_at, moves_at, last_within, rows_fit}
 use Rattle.cat_merge.proofs.policy.run_from.Goals as goal
 use Rattle.cat_merge.proofs.policy.run_from.Goals.{then-next-eq0-via-then-next-eq0, then-next-eq0-via-else-next-eq0+then-next-level}
@@ -44,3 +45,6 @@ pub returns : goal.returns
 returns c =
     moves_at c.args.factor c.args.minimum c.args.sizes.now c.args.index c.level_of-level.result c.from-rows.result c.from-last.result c.args.next
     c.requires.within c.from-rows.ensures c.from-last.ensures c.requires.next c.level_of-level.ensures c.if-next-level.false c.if-next-factor.false (omega arith)
+
+pub bounds-sizes-index-3 : goal.bounds-sizes-index-3
+bounds-sizes-index-3 c = grind (arith, elements)

@@ -1,6 +1,7 @@
 use Rattle.std.proofs.Common.{◌+◌, map, refl, arith, ap, ◌∙◌}
 use Rattle.std.proofs.lemmas.List.{map_push, take_all}
 use Rattle.std.proofs.lemmas.Result.{IfOk-from_err}
+use Rattle.std.proofs.lemmas.Grind.{common_steps}
 use Rattle.cat_merge.specs.Maps.{codes_of}
 use Rattle.cat_merge.proofs.Codes.{maps_more, counts_more, counts_fit, length-codes_of}
 use Rattle.cat_merge.proofs.row_maps.row_maps.Goals as goal
@@ -49,3 +50,6 @@ returns-in_err-row_map c = record { ok = IfOk-from_err _ _ c.from_residual-in_er
 
 pub returns-in_err-push : goal.returns-in_err-push
 returns-in_err-push c = record { ok = IfOk-from_err _ _ c.from_residual-in_err-push.ensures.0 }
+
+pub overflow_cast-first : goal.overflow_cast-first
+overflow_cast-first c = grind (arith, common_steps)

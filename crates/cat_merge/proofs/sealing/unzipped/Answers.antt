@@ -1,6 +1,7 @@
 use Rattle.std.proofs.lemmas.Result.{IfOk-from_err}
-use Rattle.std.proofs.Common.{◌+◌, ◌++◌, ◌∷◌, [], List, ℕ, length, append_assoc, sym, ap, ap₂, ◌∙◌}
+use Rattle.std.proofs.Common.{◌+◌, ◌++◌, ◌∷◌, [], List, ℕ, length, append_assoc, sym, ap, ap₂, ◌∙◌, arith}
 use Rattle.std.proofs.lemmas.List.{length_push}
+use Rattle.std.proofs.lemmas.Grind.{common_steps}
 use Rattle.cat_items.specs.file_parts.Parts.{heads_in}
 use Rattle.cat_model.specs.Layout.{Head}
 use Rattle.cat_model.specs.Text.{Text}
@@ -31,3 +32,6 @@ returns-in_err-lengths c = record { heads = IfOk-from_err _ _ c.from_residual-in
 
 pub returns-in_err-unzip : goal.returns-in_err-unzip
 returns-in_err-unzip c = record { heads = IfOk-from_err _ _ c.from_residual-in_err-unzip.ensures.0; ids = IfOk-from_err _ _ c.from_residual-in_err-unzip.ensures.0; lengths = IfOk-from_err _ _ c.from_residual-in_err-unzip.ensures.0 }
+
+pub returns-clause-heads : goal.returns-clause-heads
+returns-clause-heads c = grind (arith, common_steps)

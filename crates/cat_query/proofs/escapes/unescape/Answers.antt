@@ -1,5 +1,6 @@
 use Rattle.std.proofs.Common.{◌≡◌, ◌++◌, [], ◌∷◌, ◌∙◌, sym, ap, append_assoc, arith}
 use Rattle.std.specs.Prelude.{string_bytes}
+use Rattle.std.proofs.lemmas.Grind.{elements}
 use Rattle.cat_query.specs.Escapes.{unescaped}
 use Rattle.cat_query.proofs.Backslashes.{front, all_plain, with_plain, with_backslash, push_both, utf8_behind, utf8_after}
 use Rattle.cat_query.proofs.escapes.unescape.Goals as goal
@@ -38,3 +39,9 @@ loop-out-preserved c =
           ∙ ap (λ x. string_bytes c.loop-out.out ++ x) (sym (with_plain c.loop-out.rest.now c.in-Some.escaped.now (sym c.plain.ensures.behind ∙ c.in-Some.ensures) c.in_default-behind.ensures))
           ∙ c.loop-out.invariant.so;
     }
+
+pub loop-out-smaller-in-Some-behind : goal.loop-out-smaller-in-Some-behind
+loop-out-smaller-in-Some-behind c = grind (arith, elements)
+
+pub loop-out-smaller : goal.loop-out-smaller
+loop-out-smaller c = grind (arith, elements)

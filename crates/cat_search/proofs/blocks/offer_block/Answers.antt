@@ -1,6 +1,7 @@
 use Rattle.std.proofs.Common.{◌≡◌, ◌<◌, ◌≤◌, ◌+◌, ◌-◌, ◌*◌, ◌^◌, ◌++◌, ◌∙◌, ℕ, None, false, true, get_or, option_map, sym, ap, subst, refl, arith, rules}
 use Rattle.std.specs.List.{range_with_len}
 use Rattle.std.specs.Prelude.{slice_index_or}
+use Rattle.std.proofs.lemmas.Grind.{elements}
 use Rattle.cat_model.specs.Page.{Key}
 use Rattle.cat_search.specs.Blocks.{has_bit}
 use Rattle.cat_search.specs.Candidates.{IsBestAt, TakesIn, mark_standing}
@@ -91,3 +92,6 @@ loop-left-smaller c =
     let fits : asked < 2 ^ 64 = search rules in
     let within = bit_within asked (k + zeros) fits here in
     omega (arith, within)
+
+pub lets_in_of-asked-requires : goal.lets_in_of-asked-requires
+lets_in_of-asked-requires c = grind (arith, elements)

@@ -1,5 +1,6 @@
-use Rattle.std.proofs.Common.{◌≡◌, ◌++◌, ◌∷◌, ◌∙◌, [], None, true, cond, get_or, map, ap, sym, subst, refl}
+use Rattle.std.proofs.Common.{◌≡◌, ◌++◌, ◌∷◌, ◌∙◌, [], None, true, cond, get_or, map, ap, sym, subst, refl, arith}
 use Rattle.std.specs.Prelude.{slice_index_or}
+use Rattle.std.proofs.lemmas.Grind.{elements}
 use Rattle.cat_model.specs.Page.{Key}
 use Rattle.cat_model.specs.RowSets.{has_row}
 use Rattle.cat_search.specs.Bars.{lets_in}
@@ -30,3 +31,6 @@ returns-clause-best c = λ ps h.
     let hit : has_row c.args.hits.now row ≡ true = sym c.contains.ensures ∙ c.if-not-contains.false in
     let took = subst (λ p. IsBestAt c.offer_hit.new.best (ps ++ one mark p)) (c.at.ensures none) (c.in_ok-offer_hit.ensures.best ps h) in
     subst (λ b. IsBestAt c.offer_hit.new.best (ps ++ behind mark (map (standing_at ranks) (cond b (row ∷ []) [])))) (sym hit) took
+
+pub value-requires : goal.value-requires
+value-requires c = grind (arith, elements)

@@ -1,5 +1,6 @@
-use Rattle.std.proofs.Common.{◌≡◌, sym, IfSome, ◌∙◌, List, map, take, ap, subst}
+use Rattle.std.proofs.Common.{◌≡◌, sym, IfSome, ◌∙◌, List, map, take, ap, subst, arith}
 use Rattle.std.proofs.lemmas.List.{take_all}
+use Rattle.std.proofs.lemmas.Grind.{elements}
 use Rattle.cat_model.specs.Ranks.{sorted}
 use Rattle.cat_model.specs.View.{Leaf, row_matches}
 use Rattle.cat_query.specs.View.{query_of}
@@ -43,3 +44,6 @@ offer_leaf-requires c =
     let hand = c.requires c.loop-index.index leaf c.loop-index-test.true in
     looked_at (λ s. s ≡ map rows leaf.segment.rows) c.set_at-set.result (set_at c.args.sets.now c.loop-index.index) c.set_at-set.ensures
     (subst (λ l. IfSome (set_at c.args.sets.now c.loop-index.index) (λ s. s ≡ map rows l.segment.rows)) (sym c.index-leaves-index.is) hand)
+
+pub returns-clause-total : goal.returns-clause-total
+returns-clause-total c = grind (arith, elements)

@@ -1,5 +1,6 @@
 use Rattle.std.proofs.Common.{◌≡◌, ◌+◌, ◌-◌, ◌/◌, ◌<◌, suc, drop, arith, subst}
 use Rattle.std.specs.List.{AllByRecursion}
+use Rattle.std.proofs.lemmas.Grind.{common_steps}
 use Rattle.cat_model.proofs.Places.{each_pair}
 use Rattle.cat_views.proofs.RowSearch.{segments_below, segments_above, found_in}
 use Rattle.cat_views.specs.Rows.{all_rows}
@@ -35,3 +36,6 @@ returns c =
     let next : c.loop-high.high ≡ suc c.loop-high.low = omega arith in
     found_in c.args.number leaves c.loop-high.low c.index-leaves-low.result (omega arith) c.index-leaves-low.is c.loop-high.invariant.below
     (subst (λ i. AllByRecursion (λ r. c.args.number < r.number) (all_rows (drop i leaves))) next c.loop-high.invariant.above)
+
+pub loop-high-init : goal.loop-high-init
+loop-high-init c = grind (arith, common_steps)

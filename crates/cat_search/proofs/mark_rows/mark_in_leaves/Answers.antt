@@ -1,5 +1,6 @@
-use Rattle.std.proofs.Common.{refl}
+use Rattle.std.proofs.Common.{refl, arith}
 use Rattle.std.specs.List.{flat_map}
+use Rattle.std.proofs.lemmas.Grind.{elements}
 use Rattle.cat_model.specs.View.{live_rows}
 use Rattle.cat_search.specs.Candidates.{standing_of}
 use Rattle.cat_search.specs.Rows.{bare_record}
@@ -23,3 +24,6 @@ returns-clause-has c =
     let rows = flat_map live_rows c.args.leaves.now in
     (found_mark c.args.order rows c.args.mark c.in-Some.number c.in-Some.is c.of.result c.in-Some-live_row.segment.now.rows c.in-Some-live_row.row (standing_of c.at.result)
     c.of.ensures c.in-Some-live_row.ensures c.at.ensures).1
+
+pub at-requires : goal.at-requires
+at-requires c = grind (arith, elements)

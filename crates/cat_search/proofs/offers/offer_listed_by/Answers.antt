@@ -73,3 +73,9 @@ loop-listed-preserved g c =
 pub returns-clause-best : goal.returns-clause-best
 returns-clause-best g c = λ ps h.
     subst (IsBestAt c.loop-listed.best) (ap (λ qs. ps ++ qs) (listed_end (mark_standing c.args.mark.now) c.args.ranks.now c.args.live.now c.args.rows.now c.loop-listed.listed-index c.loop-listed-test.false)) (c.loop-listed.invariant.best ps h)
+
+pub is_live-requires : goal.is_live-requires
+is_live-requires c = omega arith
+
+pub at-requires : goal.at-requires
+at-requires c = omega arith

@@ -1,6 +1,7 @@
-use Rattle.std.proofs.Common.{◌+◌, ◌∙◌, count_by, refl, sym, ap}
+use Rattle.std.proofs.Common.{◌+◌, ◌∙◌, count_by, refl, sym, ap, arith}
 use Rattle.std.proofs.lemmas.List.{take_all}
 use Rattle.std.proofs.lemmas.List.Sums.{count_by_more_yes, count_by_more_no}
+use Rattle.std.proofs.lemmas.Grind.{common_steps}
 use Rattle.cat_model.specs.RowSets.{has_row}
 use Rattle.cat_search.proofs.ranges.count_among.Goals as goal
 use Rattle.cat_search.proofs.ranges.count_among.Goals.{then-contains, else-contains}
@@ -23,3 +24,6 @@ returns c = c.loop-row.invariant ∙ ap (count_by (has_row c.args.set.now)) (tak
 
 pub contains-requires : goal.contains-requires
 contains-requires c = c.requires c.loop-row.row-index 0 c.loop-row-test.true
+
+pub overflow_add-count : goal.overflow_add-count
+overflow_add-count c = grind (arith, common_steps)

@@ -1,4 +1,5 @@
-use Rattle.std.proofs.Common.{ap, map, ◌∙◌, option_map}
+use Rattle.std.proofs.Common.{ap, map, ◌∙◌, option_map, arith}
+use Rattle.std.proofs.lemmas.Grind.{elements}
 use Rattle.cat_model.specs.Item.{Kind}
 use Rattle.cat_segment.proofs.Filled.{texts_told, keywords_told, numbers_told, labels_told, words_of_terms, words_of_none}
 use Rattle.cat_segment.proofs.building.column_of.Goals as goal
@@ -51,3 +52,15 @@ returns-in_ok-joined-in-Facet-clause-fitting c =
       formed = c.in_ok-texts-in-Facet.ensures.formed;
       words = words_of_none c.args.index c.args.rows.now Kind.facet (λ e. (cc)) (rw c.in-Facet.is at c.requires.filled);
     }
+
+pub terms-requires-clause-few : goal.terms-requires-clause-few
+terms-requires-clause-few c = grind (arith, elements)
+
+pub of-requires : goal.of-requires
+of-requires c = grind (arith, elements)
+
+pub of-requires-in-Number : goal.of-requires-in-Number
+of-requires-in-Number c = grind (arith, elements)
+
+pub of-requires-in-Facet-clause-few : goal.of-requires-in-Facet-clause-few
+of-requires-in-Facet-clause-few c = grind (arith, elements)

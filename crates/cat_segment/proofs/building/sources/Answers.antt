@@ -1,4 +1,5 @@
 use Rattle.std.proofs.Common.{length, sum, ap, arith}
+use Rattle.std.proofs.lemmas.Grind.{elements}
 use Rattle.cat_model.specs.Forms.{IsSourceLength}
 use Rattle.cat_segment.proofs.Steps.{made_more, holds_more, sum_fits}
 use Rattle.cat_segment.proofs.building.sources.Goals as goal
@@ -21,3 +22,9 @@ loop-row-preserved c =
       same = made_more rows i c.row-item.result c.loop-row-test.true c.row-item.is (λ r. length r.item.now.source) c.loop-row.sources _ _ c.in_ok-push.ensures.ok (ap length c.source.ensures.value) c.loop-row.invariant.same;
       sizes = holds_more rows i c.row-item.result c.loop-row-test.true c.row-item.is (λ r. IsSourceLength (length r.item.now.source)) c.loop-row.invariant.sizes c.source.ensures.size;
     }
+
+pub returns-clause-ok : goal.returns-clause-ok
+returns-clause-ok c = grind (arith, elements)
+
+pub returns-clause-sizes : goal.returns-clause-sizes
+returns-clause-sizes c = grind (arith, elements)

@@ -1,6 +1,7 @@
-use Rattle.std.proofs.Common.{[], ◌∷◌, ◌++◌, ap, sym, ◌∙◌, append_assoc, subst, ◌≡◌, inl, inr}
+use Rattle.std.proofs.Common.{[], ◌∷◌, ◌++◌, ap, sym, ◌∙◌, append_assoc, subst, ◌≡◌, inl, inr, arith}
 use Rattle.cat_base.specs.declared.refusal.Refusal.TheVariants.{Memory}
 use Rattle.std.proofs.lemmas.Bool.{true≢false}
+use Rattle.std.proofs.lemmas.Grind.{common_steps}
 use Rattle.cat_segment.proofs.Judged.{column_more, some_part, judged_more}
 use Rattle.cat_segment.specs.Contents.{contents_of}
 use Rattle.cat_segment.specs.Parts.{HasNoColumn, AreColumnsOf}
@@ -31,3 +32,6 @@ pub returns-in-Damaged-clause-damaged : goal.returns-in-Damaged-clause-damaged
 returns-in-Damaged-clause-damaged c = λ _.
     some_part (HasNoColumn c.args.rows) c.loop-part.yielded c.next.new.self.rest.items c.in-Some.part c.args.parts.items
     (c.loop-part.invariant.left ∙ ap (λ l. c.loop-part.yielded ++ l) c.in-Some.ensures.steps.0) (c.in-Err.ensures.damaged c.in-Damaged.is)
+
+pub returns-clause-ok : goal.returns-clause-ok
+returns-clause-ok c = grind (arith, common_steps)

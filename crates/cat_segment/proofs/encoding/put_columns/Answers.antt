@@ -1,5 +1,6 @@
 use Rattle.std.proofs.Common.{[], map, ap, sym, ◌∙◌, arith}
 use Rattle.std.proofs.lemmas.List.{get_or-map, length-map}
+use Rattle.std.proofs.lemmas.Grind.{elements}
 use Rattle.cat_model.specs.Layout.{Laid, spelled_column}
 use Rattle.cat_segment.proofs.Spelled.{spelled_next}
 use Rattle.cat_segment.specs.Laid.{laid_in}
@@ -14,3 +15,6 @@ loop-column-preserved c =
     (omega (arith, c.loop-column-test.true, length-map columns laid_in))
     (ap laid_in c.column-item.is ∙ sym (get_or-map laid_in columns i column (Laid.numbers []) c.loop-column-test.true))
     c.in_ok-put_column.ensures.ok c.loop-column.invariant
+
+pub returns : goal.returns
+returns c = grind (arith, elements)

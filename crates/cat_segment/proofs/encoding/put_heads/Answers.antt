@@ -1,5 +1,6 @@
 use Rattle.std.proofs.Common.{◌≡◌, ◌<◌, [], length, map, get_or, sym, ◌∙◌, arith}
 use Rattle.std.proofs.lemmas.List.{get_or-map, length-map}
+use Rattle.std.proofs.lemmas.Grind.{elements}
 use Rattle.cat_model.specs.Layout.{Head, head_of, spelled_head}
 use Rattle.cat_model.specs.View.{Row}
 use Rattle.cat_segment.proofs.Spelled.{spelled_next}
@@ -20,3 +21,6 @@ loop-row-preserved c =
     (omega (arith, within, length-map rows head_of))
     (head ∙ sym (get_or-map head_of rows i d none within))
     c.in_ok-put_head.ensures c.loop-row.invariant
+
+pub returns : goal.returns
+returns c = grind (arith, elements)

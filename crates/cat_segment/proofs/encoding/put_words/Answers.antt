@@ -1,5 +1,7 @@
-use Rattle.std.proofs.Common.{◌≡◌, ◌<◌, ◌++◌, List, [], length, get_or, ap, sym, ◌∙◌, arith}
-use Rattle.std.proofs.lemmas.List.{get_or-map, length-map, get_or_read}
+use Rattle.std.proofs.Common.{◌≡◌, ◌<◌, ◌++◌, List, [], length, get_or, ap, sym, ◌∙◌, append_assoc, arith}
+use Rattle.std.proofs.lemmas.List.{get_or-map, length-map, get_or_read, take_all}
+use Rattle.std.specs.List.{flat_map}
+use Rattle.std.proofs.lemmas.Grind.{elements}
 use Rattle.cat_base.specs.Bytes.{spelled_u32}
 use Rattle.cat_model.specs.Text.{Text}
 use Rattle.cat_model.specs.Layout.{WordPostings, word_postings_of, spelled_postings}
@@ -24,3 +26,18 @@ loop-ordinal-preserved c =
     (omega (arith, within, length-map {B = WordPostings} words make))
     (made ∙ sym (get_or-map make words i [] none within))
     c.in_ok-put_posted.ensures c.loop-ordinal.invariant
+
+pub returns : goal.returns
+returns c =
+    let terms = c.args.terms.now in
+    let posted = word_postings_of terms in
+    let make : Text → WordPostings = λ w. record { word = w; rows = postings_of w terms } in
+    let count = spelled_u32 (length posted) in record {
+      ok = c.loop-ordinal.invariant
+          ∙ ap (λ l. (c.args.out.now.items ++ count) ++ flat_map spelled_postings l)
+          (take_all c.loop-ordinal.ordinal posted (omega (arith, c.loop-ordinal-test.false, ap length c.words-words.ensures.value, length-map {B = WordPostings} (dictionary_of terms) make)))
+          ∙ append_assoc c.args.out.now.items count (flat_map spelled_postings posted);
+    }
+
+pub loop-ordinal-init : goal.loop-ordinal-init
+loop-ordinal-init c = grind (arith, elements)

@@ -1,4 +1,4 @@
-use Rattle.std.proofs.Common.{◌≡◌, ◌∙◌, ◌<◌, List, true, sym, ap, subst}
+use Rattle.std.proofs.Common.{◌≡◌, ◌∙◌, ◌<◌, List, true, sym, ap, subst, arith}
 use Rattle.std.proofs.lemmas.List.{take_all}
 use Rattle.cat_model.specs.Text.{Text}
 use Rattle.cat_segment.specs.Filter.{id_hash, may_have, IsFilter}
@@ -17,3 +17,6 @@ loop-id-preserved c =
 
 pub returns : goal.returns
 returns c = record { ok = subst (λ (ids : List Text). IsFilter ids c.loop-id.bits) (take_all c.loop-id.id-index c.args.ids.now c.loop-id-test.false) c.loop-id.invariant }
+
+pub loop-id-init : goal.loop-id-init
+loop-id-init c = grind arith

@@ -29,3 +29,6 @@ returns-clause-parts c = c.loop-code.invariant.parts
 
 pub returns-clause-rows : goal.returns-clause-rows
 returns-clause-rows c = c.loop-code.invariant.rows ∙ ap (map ordinals_of) (take_all c.loop-code.code-index c.args.codes.now c.loop-code-test.false)
+
+pub overflow_cast-len : goal.overflow_cast-len
+overflow_cast-len c = omega (arith, c.requires, c.loop-code-test.true, c.loop-code.invariant.few, one_ordinal _ _ _ c.in_ok-add_ordinal.ensures.ok, c.len.ensures)

@@ -1,7 +1,8 @@
-use Rattle.std.proofs.Common.{Bool, List, true, replicate, sym, ◌∙◌, subst}
+use Rattle.std.proofs.Common.{Bool, List, true, replicate, sym, ◌∙◌, subst, arith}
 use Rattle.std.proofs.lemmas.Bool.{true≢false}
 use Rattle.std.proofs.lemmas.List.{take_rest}
 use Rattle.std.proofs.lemmas.Result.{err_from_is_err_and}
+use Rattle.std.proofs.lemmas.Grind.{common_steps}
 use Rattle.cat_model.specs.LiveFile.{SpellsLive}
 use Rattle.cat_model.specs.RowSets.{IsPacked}
 use Rattle.cat_segment.proofs.LiveFiles.{not_all_live, is_live_file}
@@ -34,3 +35,6 @@ returns-clause-ok c =
     (is_live_file c.args.bytes.now c.take_start.new.cursor start (sym c.new-cursor.ensures ∙ c.in_ok-start.ensures.ok) c.in_ok-rows.rows (c.may_stand.ensures.0 c.if-not-may_stand.false) read.0
     (subst (λ l. IsPacked l c.in_ok-rows.rows) (take_rest c.args.bytes.now 25) read.1)
     (λ all. true≢false (sym (c.are_all.ensures.1 (subst (λ l. IsPacked l (replicate start.rows true)) (sym (take_rest c.args.bytes.now 25)) all)) ∙ c.if-are_all.false)))
+
+pub returns-in_err-rows-clause-damaged : goal.returns-in_err-rows-clause-damaged
+returns-in_err-rows-clause-damaged c = grind (arith, common_steps)

@@ -1,6 +1,7 @@
-use Rattle.std.proofs.Common.{◌++◌, map, sym, ap, ◌∙◌, subst}
+use Rattle.std.proofs.Common.{◌++◌, map, sym, ap, ◌∙◌, subst, arith}
 use Rattle.std.proofs.lemmas.List.{append-nil}
 use Rattle.std.specs.List.{list_any}
+use Rattle.std.proofs.lemmas.Grind.{common_steps}
 use Rattle.cat_base.specs.Texts.{sorted_set, IsTextSet}
 use Rattle.cat_base.proofs.TextSets.{IsTextSet-sorted_set}
 use Rattle.cat_model.specs.Text.{same_text}
@@ -15,3 +16,6 @@ returns-clause-ok c =
 
 pub returns-clause-sorted : goal.returns-clause-sorted
 returns-clause-sorted c = if_ok _ _ (λ d is. subst IsTextSet (sym is) (IsTextSet-sorted_set c.loop-word.words.items)) c.of.result c.of.ensures.ok
+
+pub loop-word-preserved : goal.loop-word-preserved
+loop-word-preserved c = grind (arith, common_steps)

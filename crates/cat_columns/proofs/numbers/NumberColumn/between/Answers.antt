@@ -1,4 +1,5 @@
 use Rattle.std.proofs.Common.{◌∙◌, ap, arith, length, map}
+use Rattle.std.proofs.lemmas.Grind.{elements}
 use Rattle.cat_model.specs.RowSets.{joined, both}
 use Rattle.cat_model.specs.Query.{has_some}
 use Rattle.cat_columns.specs.Columns.{is_between}
@@ -13,3 +14,6 @@ returns c = record {
 
 pub rows_between-requires : goal.rows_between-requires
 rows_between-requires c = omega (arith, c.self.invariant.few, c.self.invariant.same, ap length c.deref.ensures.value)
+
+pub and_with-requires : goal.and_with-requires
+and_with-requires c = grind (arith, elements)

@@ -1,6 +1,7 @@
 use Rattle.std.proofs.lemmas.Result.{err_from_is_err_and}
 use Rattle.std.proofs.Common.{◌≡◌, inr, refl, Bool, List, length, map, arith}
 use Rattle.std.specs.List.{range_with_len}
+use Rattle.std.proofs.lemmas.Grind.{common_steps}
 use Rattle.cat_base.specs.declared.refusal.Refusal.TheVariants.{Memory}
 use Rattle.cat_model.specs.RowSets.{IsPacked}
 use Rattle.cat_columns.specs.Bits.{has_row_bit}
@@ -24,3 +25,9 @@ pub returns-in_err-blocks-clause-refusal : goal.returns-in_err-blocks-clause-ref
 returns-in_err-blocks-clause-refusal c =
     let p = err_from_is_err_and c.from_residual.result c.from_residual.ensures.1 in
     rw (p.1, p.2) (inr refl)
+
+pub returns-then-bytes-len-clause-damaged : goal.returns-then-bytes-len-clause-damaged
+returns-then-bytes-len-clause-damaged c = grind (arith, common_steps)
+
+pub invariant_of-result : goal.invariant_of-result
+invariant_of-result c = grind arith

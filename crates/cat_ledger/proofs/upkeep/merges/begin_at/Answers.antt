@@ -1,4 +1,5 @@
-use Rattle.std.proofs.Common.{[], ◌∷◌}
+use Rattle.std.proofs.Common.{[], ◌∷◌, arith}
+use Rattle.std.proofs.lemmas.Grind.{elements}
 use Rattle.cat_model.specs.Files.{Name}
 use Rattle.cat_ledger.proofs.upkeep.Made.{left_begun, window_fits, window_begun}
 use Rattle.cat_ledger.proofs.upkeep.Spared.{begun_spares}
@@ -31,3 +32,6 @@ pub returns-in-Err-clause-segments : goal.returns-in-Err-clause-segments
 returns-in-Err-clause-segments g c =
     given_up_segments (Name.source c.args.core.now.next_segment ∷ []) (g.D.Holder.bytes c.args.device.now) (g.D.Holder.bytes c.begin_merge.new.device) c.args.core.now
     c.begin_merge.new.self c.in-Err.ensures.err c.in-Err.ensures.known
+
+pub begin_merge-requires-clause-within : goal.begin_merge-requires-clause-within
+begin_merge-requires-clause-within c = grind (arith, elements)

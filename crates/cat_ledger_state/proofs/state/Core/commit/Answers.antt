@@ -330,3 +330,6 @@ returns-in_err-make_room-clause-known g c =
     either_err c.from_residual-in_err-make_room.result
     (subst (λ s. StayKnown s.users c.make_room.new.refs) c.self.view_is
     (λ q known. subst (λ us. is_known us q ≡ true) (sym c.in_err-make_room.ensures.err) known))
+
+pub conclude-requires-clause-room : goal.conclude-requires-clause-room
+conclude-requires-clause-room c = grind arith

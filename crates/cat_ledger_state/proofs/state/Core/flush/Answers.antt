@@ -1,5 +1,6 @@
 use Rattle.std.proofs.Common.{◌≡◌, ◌+◌, ◌-◌, ◌<◌, ◌≤◌, Err, List, Ok, Result, [], ◌∷◌, ◌++◌, length, length-append, take, sym, ◌∙◌, ap, subst, inl, inr, true, false, arith, refl}
 use Rattle.std.specs.Prelude.{IfErr, ◌⊎◌}
+use Rattle.std.proofs.lemmas.Grind.{common_steps}
 use Rattle.cat_base.specs.declared.refusal.Refusal.{Refusal}
 use Rattle.cat_base.specs.declared.refusal.Refusal.TheVariants.{Device, Memory, Spent}
 use Rattle.cat_directory.specs.Devices.{NoMore}
@@ -246,3 +247,6 @@ returns-in_err-add_segment-clause-known g c =
     either_err c.from_residual-in_err-add_segment.result
     (subst (λ s. StayKnown s.users c.add_segment.new.refs) c.self.view_is
     (λ q known. subst (λ us. is_known us q ≡ true) (sym c.in_err-add_segment.ensures.err.1) known))
+
+pub new_segment-requires-clause-some : goal.new_segment-requires-clause-some
+new_segment-requires-clause-some c = grind (arith, common_steps)

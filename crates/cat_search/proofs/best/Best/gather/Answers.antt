@@ -1,5 +1,6 @@
-use Rattle.std.proofs.Common.{◌≡◌, ◌∙◌, ◌++◌, ◌∷◌, [], ap}
+use Rattle.std.proofs.Common.{◌≡◌, ◌∙◌, ◌++◌, ◌∷◌, [], ap, arith}
 use Rattle.std.proofs.lemmas.List.Sorted.{ranks_by}
+use Rattle.std.proofs.lemmas.Grind.{common_steps}
 use Rattle.cat_search.specs.BestItems.{less}
 use Rattle.cat_search.proofs.Kept.{best_pushed, best_cut}
 use Rattle.cat_search.proofs.best.Best.gather.Goals as goal
@@ -20,3 +21,6 @@ returns-in-Ok-clause-best g c = λ offered b.
     c.in-Ok.ensures.limit c.in-Ok.ensures.items c.in-Ok.ensures.ready (offered ++ c.args.item ∷ [])
     (best_pushed lt c.args.self.now (record { limit = c.self.inside.limit; items = c.push.new.self.items; ready = c.self.inside.ready }) c.args.item
     (ap (λ k. k.limit) c.self.view_is) pushed (ap (λ k. k.ready) c.self.view_is) offered b)
+
+pub returns-in-Err-clause-unchanged : goal.returns-in-Err-clause-unchanged
+returns-in-Err-clause-unchanged c = grind (arith, common_steps)

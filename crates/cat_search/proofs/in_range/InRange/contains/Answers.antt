@@ -1,5 +1,6 @@
 use Rattle.std.proofs.Common.{◌≡◌, ◌∙◌, length, sym, ap, arith}
 use Rattle.std.specs.Prelude.{None, slice_index_or}
+use Rattle.std.proofs.lemmas.Grind.{common_steps}
 use Rattle.cat_model.specs.RowSets.{has_row}
 use Rattle.cat_search.proofs.Tested.{between_long, told_live, told_out}
 use Rattle.cat_search.proofs.in_range.InRange.contains.Goals as goal
@@ -23,3 +24,6 @@ returns-else-lies_between c =
     let range = c.self.inside in
     told_out range.low range.high range.numbers.now range.leaf.now.live c.self.invariant c.args.row c.value-number.result c.lies_between.result (c.value-number.ensures ∙ ap (λ l. slice_index_or l c.args.row None) c.values.ensures) c.lies_between.ensures c.if-lies_between.false
     ∙ ap (λ l. has_row l c.args.row) c.self.view_is
+
+pub is_live-requires : goal.is_live-requires
+is_live-requires c = grind (arith, common_steps)

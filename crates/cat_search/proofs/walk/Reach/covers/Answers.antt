@@ -1,6 +1,7 @@
-use Rattle.std.proofs.Common.{◌≡◌, ◌<◌, ◌++◌, ◌∷◌, [], ◌∙◌, length, sym, subst, append_assoc}
+use Rattle.std.proofs.Common.{◌≡◌, ◌<◌, ◌++◌, ◌∷◌, [], ◌∙◌, length, sym, subst, append_assoc, arith}
 use Rattle.std.specs.List.{AllByRecursion}
 use Rattle.std.proofs.lemmas.List.Elements.{recursion_from_All}
+use Rattle.std.proofs.lemmas.Grind.{common_steps}
 use Rattle.cat_views.proofs.Selected.{All-right}
 use Rattle.cat_search.specs.Hits.{hit_rows}
 use Rattle.cat_search.proofs.walk.Reach.covers.Goals as goal
@@ -15,3 +16,6 @@ pub loop-row-preserved : goal.loop-row-preserved
 loop-row-preserved c =
     let rest : c.loop-row.yielded ++ c.in-Some.row ∷ c.next.new.self ≡ c.args.steps = rw c.in-Some.ensures.steps at c.loop-row.invariant.rows in
     record { can = tt; finite = tt; rows = append_assoc c.loop-row.yielded (c.in-Some.row ∷ []) c.next.new.self ∙ rest }
+
+pub loop-row-preserved-then-contains : goal.loop-row-preserved-then-contains
+loop-row-preserved-then-contains c = grind (arith, common_steps)

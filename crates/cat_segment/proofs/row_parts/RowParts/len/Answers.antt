@@ -1,4 +1,5 @@
-use Rattle.std.proofs.Common.{◌≡◌, ◌+◌, [], inl, inr, List, ℕ, ap, length, sym, ◌∙◌}
+use Rattle.std.proofs.Common.{◌≡◌, ◌+◌, [], inl, inr, List, ℕ, ap, length, sym, ◌∙◌, arith}
+use Rattle.std.proofs.lemmas.Grind.{elements}
 use Rattle.cat_segment.specs.RowParts.{parts_of, parts_of_runs, rows_behind, rows_of_runs}
 use Rattle.cat_segment.proofs.Runs.{length-parts}
 use Rattle.cat_segment.proofs.row_parts.RowParts.len.Goals as goal
@@ -12,3 +13,12 @@ returns-in-Runs c =
       | inl e ↦ many [] ∙ ap (λ parts. length (parts_of parts)) (sym e)
       | inr e ↦ many (rows_behind runs) ∙ ap (λ parts. length (parts_of parts)) (sym e)
     ]
+
+pub overflow_add-result-in-Runs : goal.overflow_add-result-in-Runs
+overflow_add-result-in-Runs c = grind (arith, elements)
+
+pub returns-in-Rising : goal.returns-in-Rising
+returns-in-Rising c = grind (arith, elements)
+
+pub returns-in-Falling : goal.returns-in-Falling
+returns-in-Falling c = grind (arith, elements)

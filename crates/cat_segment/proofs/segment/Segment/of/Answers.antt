@@ -1,6 +1,7 @@
-use Rattle.std.proofs.Common.{◌<◌, ◌^◌, length, map, ap, ◌∙◌}
+use Rattle.std.proofs.Common.{◌<◌, ◌^◌, length, map, ap, ◌∙◌, arith}
 use Rattle.std.specs.Prelude.{All}
 use Rattle.std.specs.List.{range_with_len}
+use Rattle.std.proofs.lemmas.Grind.{elements}
 use Rattle.cat_model.specs.Text.{Text}
 use Rattle.cat_model.specs.View.{row_of, IsFormedRow}
 use Rattle.cat_model.specs.Layout.{words_of_field}
@@ -33,3 +34,12 @@ pub returns : goal.returns
 returns c =
     let rows = rows_in_body c.args.schema.now c.args.rows.now c.requires.rows c.fields.ensures.valid (formed c) (words c) _ (made c) in
     record { ok = λ i. record { number = c.args.number; schema = c.in_ok-copy.ensures i; rows = rows i } }
+
+pub ids-requires : goal.ids-requires
+ids-requires c = grind (arith, elements)
+
+pub sources-requires : goal.sources-requires
+sources-requires c = grind (arith, elements)
+
+pub columns_of-requires-clause-few : goal.columns_of-requires-clause-few
+columns_of-requires-clause-few c = grind (arith, elements)

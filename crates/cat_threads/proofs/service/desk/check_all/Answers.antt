@@ -1,5 +1,6 @@
-use Rattle.std.proofs.Common.{◌≡◌, [], ◌∷◌, ◌++◌, List, refl, sym, ap, ◌∙◌, subst, append_assoc}
+use Rattle.std.proofs.Common.{◌≡◌, [], ◌∷◌, ◌++◌, List, refl, sym, ap, ◌∙◌, subst, append_assoc, arith}
 use Rattle.std.specs.Vec.Iter.{into_iter_items}
+use Rattle.std.proofs.lemmas.Grind.{common_steps}
 use Rattle.crossbeam_utils.specs.Seq.{cell_view}
 use Rattle.cat_threads.specs.history.Rules.{Each, Sight, scribe}
 use Rattle.cat_threads.specs.service.Passes.{Ends, Seen}
@@ -33,3 +34,6 @@ loop-pass-preserved g c =
 
 pub returns-clause-same : goal.returns-clause-same
 returns-clause-same g c = (c.loop-pass.invariant.0, c.loop-pass.invariant.1)
+
+pub returns-clause-ends : goal.returns-clause-ends
+returns-clause-ends c = grind (arith, common_steps)

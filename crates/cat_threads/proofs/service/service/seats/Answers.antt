@@ -1,6 +1,7 @@
 use Rattle.std.proofs.Common.{◌≡◌, ◌+◌, [], ◌∷◌, ◌++◌, map, take, List, sym, ap, ◌∙◌, arith, rules, refl}
 use Rattle.std.specs.Prelude.{slice_index_or}
 use Rattle.std.proofs.lemmas.List.{take_more}
+use Rattle.std.proofs.lemmas.Grind.{elements}
 use Rattle.cat_threads.specs.history.Rules.{Sight}
 use Rattle.cat_threads.specs.history.Entries.{has_session}
 use Rattle.cat_threads.specs.history.Rules.{scribe, seat_for, seating}
@@ -34,3 +35,9 @@ loop-session-preserved g c =
       s.desk.1 ∙ (ap (λ (v : Sight). seating x v) i.1 ∙ ap (λ l. scribe [] 0 l []) (sym (seated_by-snoc [] (take n xs) x) ∙ ap (seated_by []) more)),
       c.in_ok-push.ensures.items ∙ (ap (λ (l : List Seen). l ++ c.new.result ∷ []) i.2 ∙ (ap (λ (p : Seen). map f (take n xs) ++ p ∷ []) c.new.ensures ∙ (sym (map-snoc f (take n xs) x) ∙ ap (map f) more))),
     )
+
+pub returns-clause-passes : goal.returns-clause-passes
+returns-clause-passes c = grind (arith, elements)
+
+pub returns-clause-scribe : goal.returns-clause-scribe
+returns-clause-scribe c = grind (arith, elements)
