@@ -2,6 +2,7 @@ use Rattle.std.proofs.Common.{◌≡◌, ℕ, ◌+◌, ◌<◌, [], length, get_
 use Rattle.std.proofs.Math.ListN.{length-set}
 use Rattle.std.proofs.lemmas.List.{get_or-map, length-map, take_all}
 use Rattle.std.proofs.lemmas.List.Elements.{All-get_or}
+use Rattle.std.proofs.lemmas.Grind.{elements}
 use Rattle.cat_model.specs.Ordinals.{dictionary_of, text_at}
 use Rattle.cat_model.specs.Text.{Text}
 use Rattle.cat_search.proofs.columns_laws.Ordinals.{dictionary_rises}
@@ -51,3 +52,6 @@ returns c = record {
       ∙ ap (sum_at g globals) (take_all i (map h (dictionary_of rows)) (omega (arith, long, length-map (dictionary_of rows) h)))
       ∙ all_counted c.args.labels.now rows globals g c.as_slice.ensures.sorted (dictionary_rises rows) c.requires.map.texts c.requires.map.within lt);
 }
+
+pub postings_at-requires : goal.postings_at-requires
+postings_at-requires c = grind (arith, elements)

@@ -2,6 +2,7 @@ use Rattle.std.proofs.Common.{◌≡◌, ℕ, ◌+◌, ◌<◌, ◌++◌, ◌∷
 use Rattle.std.proofs.lemmas.List.{length-map}
 use Rattle.std.proofs.lemmas.List.Elements.{All-get_or}
 use Rattle.std.proofs.lemmas.List.Sums.{count_by-le-length}
+use Rattle.std.proofs.lemmas.Grind.{elements}
 use Rattle.cat_base.specs.Texts.{IsTextSet}
 use Rattle.cat_model.specs.Facets.{is_empty}
 use Rattle.cat_model.specs.Ordinals.{dictionary_of, text_at}
@@ -74,3 +75,6 @@ returns-clause-counts c = λ g lt.
     c.loop-row.invariant.counts g lt
     ∙ ap (λ n. get_or c.args.totals.now g 0 + n) (ap (λ ys. label_count t (map (λ r. get_or c.args.column.now r []) ys)) all
     ∙ ap (label_count t) (at_indices c.args.rows.now c.args.column.now [] c.requires.rows))
+
+pub add_row-requires-clause-within : goal.add_row-requires-clause-within
+add_row-requires-clause-within c = grind (arith, elements)

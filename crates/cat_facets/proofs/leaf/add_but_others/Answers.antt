@@ -1,5 +1,6 @@
 use Rattle.std.proofs.Common.{◌≡◌, ℕ, List, Bool, true, not, length, sym, ap, ◌∙◌, subst, arith}
 use Rattle.std.specs.Prelude.{replicate, Option, IfSome}
+use Rattle.std.proofs.lemmas.Grind.{elements}
 use Rattle.cat_model.specs.Facets.{is_empty}
 use Rattle.cat_model.specs.GlobalOrdinals.{IsOrdinalMap}
 use Rattle.cat_model.specs.Ordinals.{dictionary_of, text_at}
@@ -95,3 +96,6 @@ returns-clause-counts c = λ g lt.
     let parts = count-others (has_label t) hits column c.requires.rows in
     let taken = c.take_rows-unmatched.ensures.counts g lt in
     omega (arith, some, all, mid, parts, taken)
+
+pub and_not-requires : goal.and_not-requires
+and_not-requires c = grind (arith, elements)

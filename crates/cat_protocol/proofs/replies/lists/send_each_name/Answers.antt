@@ -1,6 +1,7 @@
 use Rattle.std.proofs.Common.{arith}
 use Rattle.std.proofs.lemmas.List.{take_all}
 use Rattle.std.proofs.KnownBytes.{Appends-nil}
+use Rattle.std.proofs.lemmas.Grind.{common_steps}
 use Rattle.cat_protocol.proofs.sending.Written.{sent_at_fault}
 use Rattle.cat_protocol.proofs.replies.Pieces.{front_within, name_line}
 use Rattle.cat_protocol.proofs.replies.lists.send_each_name.Goals as goal
@@ -15,3 +16,6 @@ loop-name-init g c = Appends-nil _
 
 pub returns : goal.returns
 returns g c = rw (take_all c.loop-name.name-index c.args.names.now (omega (arith, c.loop-name-test.false))) at c.loop-name.invariant
+
+pub loop-name-preserved : goal.loop-name-preserved
+loop-name-preserved c = grind (arith, common_steps)

@@ -1,6 +1,7 @@
 use Rattle.std.proofs.Common.{arith}
 use Rattle.std.proofs.lemmas.List.{take_all}
 use Rattle.std.proofs.KnownBytes.{Appends-nil}
+use Rattle.std.proofs.lemmas.Grind.{common_steps}
 use Rattle.cat_protocol.proofs.sending.Written.{sent_at_fault}
 use Rattle.cat_protocol.proofs.replies.Pieces.{front_within, segment_line}
 use Rattle.cat_protocol.proofs.replies.telling.send_segments.Goals as goal
@@ -15,3 +16,6 @@ loop-segment-init g c = Appends-nil _
 
 pub returns : goal.returns
 returns g c = rw (take_all c.loop-segment.segment-index c.args.segments.now (omega (arith, c.loop-segment-test.false))) at c.loop-segment.invariant
+
+pub loop-segment-preserved : goal.loop-segment-preserved
+loop-segment-preserved c = grind (arith, common_steps)

@@ -1,6 +1,7 @@
-use Rattle.std.proofs.Common.{◌≡◌, ℕ, ◌≤◌, ◌∙◌, List, true, ap, sym, subst, rules}
+use Rattle.std.proofs.Common.{◌≡◌, ℕ, ◌≤◌, ◌∙◌, List, true, ap, sym, subst, rules, arith}
 use Rattle.std.specs.List.{filter}
 use Rattle.std.proofs.lemmas.Fn.{filter_same}
+use Rattle.std.proofs.lemmas.Grind.{elements}
 use Rattle.cat_model.specs.Limits.{view_limit}
 use Rattle.cat_model.specs.State.{Hold}
 use Rattle.cat_lifetimes.specs.records.Counts.{AreKept, KeepsFrom, is_kept_from, views_of}
@@ -26,3 +27,6 @@ returns-clause-pruned c =
     let left : c.retain.new.self.items ≡ filter (is_kept_from t) rs = filter_same _ _ _ (λ x b f' k. search rules) _ _ c.retain.ensures.filtered in
     let keeps : KeepsFrom (shown rs hs) c.args.count t = subst (λ (r : Records). KeepsFrom r c.args.count t) (sym c.self.view_is) c.kept_from-token.ensures.keeps in
     ap (λ (l : List Recorded). shown l hs) left ∙ pruned_is rs hs c.args.count t c.self.invariant.0.counted keeps ∙ ap (λ (r : Records). pruned_to r c.args.count) c.self.view_is
+
+pub returns-clause-went : goal.returns-clause-went
+returns-clause-went c = grind (arith, elements)

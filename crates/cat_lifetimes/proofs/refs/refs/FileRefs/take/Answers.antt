@@ -1,5 +1,6 @@
 use Rattle.std.proofs.Common.{arith, get_or, take, subst, ℕ, [], map}
 use Rattle.std.proofs.lemmas.List.{take_more}
+use Rattle.std.proofs.lemmas.Grind.{elements}
 use Rattle.cat_ledger_laws.specs.model.Users.{Changes}
 use Rattle.cat_directory.specs.declared.name.FileName.{FileName}
 use Rattle.cat_directory.specs.declared.name.FileName.TheVariants.{Segment}
@@ -26,3 +27,6 @@ loop-name-preserved c =
       users = rw (take_more c.args.names.now i (Segment 0) c.loop-name-test.true)
           (one_taken c.args.self.now (take i c.args.names.now) c.loop-name.self-inside.users.entries c.add_user.new.users.entries k c.add_user.ensures.added c.loop-name.invariant.users);
     }
+
+pub returns-clause-ok : goal.returns-clause-ok
+returns-clause-ok c = grind (arith, elements)

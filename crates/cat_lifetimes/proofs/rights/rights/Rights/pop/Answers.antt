@@ -1,5 +1,6 @@
-use Rattle.std.proofs.Common.{◌≡◌, ◌∙◌, List, [], ◌∷◌, ◌++◌, Some, None, cond, ap, sym, subst}
+use Rattle.std.proofs.Common.{◌≡◌, ◌∙◌, List, [], ◌∷◌, ◌++◌, Some, None, cond, ap, sym, subst, arith}
 use Rattle.std.specs.Map.{lookup, values_of}
+use Rattle.std.proofs.lemmas.Grind.{common_steps}
 use Rattle.cat_model.specs.State as state
 use Rattle.cat_views.specs.Holds.{HeldView}
 use Rattle.cat_lifetimes.specs.rights.Rights.{AreRightsKeyed, hold_of_right, right_of}
@@ -35,3 +36,6 @@ returns-clause-others c =
     ∙ ap (λ (l : state.Hold). cond (same_as l (key u v)) None (lookup (same_as (key u v)) es)) front.1
     ∙ ap (λ r. cond (same_as (hold_of_right h) (key u v)) None r) (shown es c.self.invariant u v)
     ∙ ap (λ (rs : List HeldView). cond (same_as (hold_of_right h) (key u v)) None (right_of rs u v)) c.self.view_is
+
+pub returns-clause-some : goal.returns-clause-some
+returns-clause-some c = grind (arith, common_steps)

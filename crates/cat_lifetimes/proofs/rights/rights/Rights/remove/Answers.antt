@@ -1,5 +1,6 @@
-use Rattle.std.proofs.Common.{◌∙◌, List, None, cond, ap, sym, subst}
+use Rattle.std.proofs.Common.{◌∙◌, List, None, cond, ap, sym, subst, arith}
 use Rattle.std.specs.Map.{lookup}
+use Rattle.std.proofs.lemmas.Grind.{elements}
 use Rattle.cat_model.specs.State as state
 use Rattle.cat_views.specs.Holds.{HeldView}
 use Rattle.cat_lifetimes.specs.rights.Rights.{AreRightsKeyed, right_of}
@@ -30,3 +31,6 @@ returns-clause-others c =
     ∙ ap (λ (l : state.Hold). cond (same_as l (key u v)) None (lookup (same_as (key u v)) es)) c.new.ensures
     ∙ ap (λ r. cond (same_as k (key u v)) None r) (shown es c.self.invariant u v)
     ∙ ap (λ (rs : List HeldView). cond (same_as k (key u v)) None (right_of rs u v)) c.self.view_is
+
+pub returns-clause-len : goal.returns-clause-len
+returns-clause-len c = grind (arith, elements)

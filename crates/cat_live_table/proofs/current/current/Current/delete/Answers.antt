@@ -1,6 +1,7 @@
 use Rattle.std.proofs.Common.{◌≡◌, ◌<◌, length, arith, Some, None, OnErr, Ok, Err, Result, is_some, set, sym, ap, ◌∙◌, subst}
 use Rattle.std.specs.HashMap.{get_by_text}
 use Rattle.std.proofs.lemmas.Map.Text.{hash_map_updates_text}
+use Rattle.std.proofs.lemmas.Grind.{common_steps}
 use Rattle.cat_model.specs.Write.{Write}
 use Rattle.cat_ledger_laws.specs.model.Leaves.{has_live_id, leaves_after}
 use Rattle.cat_live_table.proofs.current.Currents.{contained, nothing, is_indexed, no_leaf, kill_within, kill_row, killed_there, deleted}
@@ -48,3 +49,6 @@ returns-clause-ok c =
     killed_there _ _ _ _ c.self.invariant c.args.id.now c.in-Some.field-0 c.index_mut-leaf.result.now c.in-Some-copied.index (sym (c.in-Some.ensures ∙ c.get.ensures.value))
     (sym (c.in-Some-copied.ensures ∙ c.get-2.ensures.value)) c.kill.new.self c.index_mut-leaf.ensures.value c.in_ok-kill.ensures.ok
     ∙ ap (leaves_after (Write.delete c.args.id.now)) c.self.view_is
+
+pub invariant_of-self : goal.invariant_of-self
+invariant_of-self c = grind (arith, common_steps)

@@ -1,6 +1,7 @@
-use Rattle.std.proofs.Common.{◌≡◌, ◌≢◌, ◌+◌, ◌++◌, List, length, take, drop, option_to_list, hash_map_len, nat_eq, AllPairs, sym, ap, ◌∙◌, subst}
+use Rattle.std.proofs.Common.{◌≡◌, ◌≢◌, ◌+◌, ◌++◌, List, length, take, drop, option_to_list, hash_map_len, nat_eq, AllPairs, sym, ap, ◌∙◌, subst, arith}
 use Rattle.std.specs.HashMap.{get, get_by_text}
 use Rattle.std.specs.List.{flat_map}
+use Rattle.std.proofs.lemmas.Grind.{common_steps, elements}
 use Rattle.cat_model.specs.View.{Leaf, live_rows}
 use Rattle.cat_ledger_laws.specs.model.Leaves.{AreLeaves}
 use Rattle.cat_live_table.specs.current.Indices.{index_in}
@@ -37,3 +38,9 @@ invariant_of-self-2 c =
     rw whole (installed _ _ _ _ _ _ (take i leaves) (take k (drop i leaves)) ts (drop (i + k) leaves) was stands rows c.move_any.ensures
     (λ n. c.index_all.ensures.indexed n ∙ ap (index_in n) (c.deref.ensures.value ∙ whole))
     (c.index_all.ensures.counted ∙ ap (λ (ls : List Leaf). length ls) (c.deref.ensures.value ∙ whole)))
+
+pub index_all-requires-clause-room : goal.index_all-requires-clause-room
+index_all-requires-clause-room c = grind (arith, common_steps)
+
+pub returns-clause-ok : goal.returns-clause-ok
+returns-clause-ok c = grind (arith, elements)

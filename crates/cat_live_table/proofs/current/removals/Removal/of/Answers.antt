@@ -1,5 +1,6 @@
-use Rattle.std.proofs.Common.{◌≡◌, ◌∙◌, length, map, sym, ap, ap₂}
+use Rattle.std.proofs.Common.{◌≡◌, ◌∙◌, length, map, sym, ap, ap₂, arith}
 use Rattle.std.proofs.lemmas.List.{length-map}
+use Rattle.std.proofs.lemmas.Grind.{elements}
 use Rattle.cat_model.specs.RowSets.{joined, both}
 use Rattle.cat_model.specs.View.{Leaf, row_matches}
 use Rattle.cat_query.specs.View.{query_of}
@@ -41,3 +42,6 @@ returns c =
     record {
       ok = sym (removed_is (query_of c.args.query.now) c.args.leaf.now c.in_ok-leaf.leaf c.and_with.new.self c.live.ensures.long set c.in_ok-leaf.ensures.ok);
     }
+
+pub and_with-requires : goal.and_with-requires
+and_with-requires c = grind (arith, elements)

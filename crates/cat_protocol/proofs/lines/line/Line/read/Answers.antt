@@ -1,5 +1,6 @@
-use Rattle.std.proofs.Common.{◌≡◌}
+use Rattle.std.proofs.Common.{◌≡◌, arith}
 use Rattle.std.specs.Fmt.{decimal}
+use Rattle.std.proofs.lemmas.Grind.{elements}
 use Rattle.cat_protocol.proofs.lines.WordsSpelled.{reads, refused, no_session, no_session_alone}
 use Rattle.cat_protocol.proofs.lines.line.Line.read.Goals as goal
 
@@ -20,3 +21,6 @@ returns-clause-found c =
     let split = c.in-Some.ensures in
     let first : c.in-Some.first.now ≡ decimal c.in_ok-session-2.session = session.1 in
     reads c.args.text.now c.in-Some.rest.now c.in_ok-session-2.session _ session.0 (rw first at split.found) c.read.ensures
+
+pub returns-in_default-clause-found : goal.returns-in_default-clause-found
+returns-in_default-clause-found c = grind (arith, elements)
