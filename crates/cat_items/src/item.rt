@@ -1,5 +1,5 @@
 //! An item of the catalogue.
-ghost use Rattle.std.specs.Prelude.{◌≡◌, ◌↔◌, true, map, length, option_map, All, IfOk, IsTrue};
+ghost use Rattle.std.specs.Prelude.{◌≡◌, ◌↔◌, true, map, length, option_map, All, IsTrue};
 ghost use Rattle.std.specs.Arc.{arc_value};
 ghost use Rattle.cat_model.specs.Item.{is_id, AreFields, IsContent};
 ghost use Rattle.cat_model.specs.Forms.{IsFormed, IsFormedItem, IsSourceLength};
@@ -8,7 +8,6 @@ ghost use Rattle.cat_items.specs.Kinds.{field_kind_of};
 
 use crate::schema::{Field, Kind, index_of};
 use cat_base::{Text, TextSet};
-use std::alloc::{AllocError, Global};
 use std::marker::Model;
 use std::sync::Arc;
 

@@ -1,7 +1,7 @@
 //! The ledger, which is its directory and what memory has of it.
 ghost use Rattle.cat_ledger.specs.Histories.{FoundIsTaken, FoundIsTried, NewestIsAnswered, NewestIsFound, NoneIsLost};
 ghost use Rattle.cat_ledger.specs.Lasting.{AlwaysTells, IsCarried, NewestLasts};
-ghost use Rattle.cat_ledger.specs.Ledgers.{device_in, policy_in, shape_in};
+ghost use Rattle.cat_ledger.specs.Ledgers.{device_in, shape_in};
 ghost use Rattle.std.specs.Prelude.{◌≡◌, ◌+◌, ◌*◌, ◌≤◌, ◌==◌, count_by};
 
 use crate::upkeep::MergePolicy;

@@ -1,21 +1,18 @@
 //! What is asked of the state, which changes nothing and takes no memory.
 //!
 //! Lucene's `IndexWriter.getDocStats` and `numRamDocs`, and what `IndexFileDeleter` and `SearcherLifetimeManager` count.
-ghost use Rattle.std.specs.Prelude.{◌≡◌, ◌+◌, ◌*◌, ◌≤◌, ◌==◌, ◌↔◌, [], length, count_by, find, option_map, is_some, true, IsTrue};
+ghost use Rattle.std.specs.Prelude.{◌≡◌, ◌+◌, ◌*◌, ◌≤◌, ◌==◌, ◌↔◌, length, count_by, find, option_map, is_some, true, IsTrue};
 ghost use Rattle.std.specs.List.{list_any};
 ghost use Rattle.cat_model.specs.Limits.{buffer_limit};
 ghost use Rattle.cat_model.specs.Run.{greatest, is_full};
 ghost use Rattle.cat_model.specs.State.{has_hold, held_in};
-ghost use Rattle.cat_directory.specs.Names.{name_of};
-ghost use Rattle.cat_ledger_laws.specs.model.Users.{users_of};
 ghost use Rattle.cat_ledger_state.specs.Cores.{HasRowsLeft};
 ghost use Rattle.cat_ledger_laws.specs.shape.Shapes.{IsShape};
 ghost use Rattle.cat_ledger_laws.specs.shape.Steps.{tokens_of};
 
 use crate::state::Core;
-use cat_base::{Generation, SegNo, SessionNo, Token, WriteNo};
+use cat_base::{Generation, SessionNo, Token, WriteNo};
 use cat_commits::{Leaf, View};
-use cat_directory::FileName;
 use cat_live_table::Schema;
 
 impl Core {

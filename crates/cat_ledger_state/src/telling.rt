@@ -2,9 +2,8 @@
 //!
 //! Lucene's `DirectoryReader.listCommits`.
 ghost use Rattle.std.specs.Prelude.{◌≡◌, ◌==◌, find, option_map};
-ghost use Rattle.cat_ledger_laws.specs.shape.Steps.{newest_generation};
 
-use crate::kept::{commit_under, newest_of};
+use crate::kept::commit_under;
 use crate::state::Core;
 use cat_base::Generation;
 use cat_commits::Commit;

@@ -1,9 +1,7 @@
 //! The rows of a segment that a query matches.
-ghost use Rattle.std.specs.Prelude.{◌≡◌, ◌^◌, ◌<◌, length, count_by, IfOk};
-ghost use Rattle.cat_model.specs.RowSets.{has_row, indices};
+ghost use Rattle.std.specs.Prelude.{◌≡◌};
 
-use cat_columns::{RowSet, Rows};
-use std::alloc::AllocError;
+use cat_columns::RowSet;
 use std::marker::Model;
 
 /// The rows of one segment that a query matches, deleted rows too: Lucene's `DocIdSet`, as `LRUQueryCache` keeps it for

@@ -9,7 +9,6 @@ use cat_commands::cat_cached_sets::filters::Filters;
 use cat_commands::cat_ledger::Ledger;
 use cat_commands::cat_protocol::ReaderStates;
 use cat_directory::{Directory, Shelf};
-use cat_items::Schema;
 use std::alloc::Global;
 use std::marker::Model;
 

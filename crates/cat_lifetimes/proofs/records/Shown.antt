@@ -296,9 +296,6 @@ held_found rs hs t k = by (find (λ r. recorded_token r == t) rs) (found_has (λ
     by None h = tt
     by (Some r) h = ap (ltb 0) (h.1 ∙ ap (holders_of hs) (equal_at (recorded_token r) t h.0)) ∙ sym (held_is_counted hs t)
 
-pub held_nowhere : (rs : List Recorded) (hs : List Hold) (t : ℕ) → AreKept rs hs → list_any (λ r. recorded_token r == t) rs ≡ false → false ≡ held_in hs t
-held_nowhere rs hs t k none = sym (unheld rs hs t k.held (sym (any-views rs t) ∙ none))
-
 -- ---- the public word
 
 all_of : {X : Type 0} (P : X → Type 0) (xs : List X) → AllByRecursion P xs → All P xs
@@ -344,9 +341,6 @@ are_records same rs hs k d alike = record {
 
 pub view_found : (rs : List Recorded) (t : ℕ) (o : Option Recorded) → o ≡ find (λ r. recorded_token r == t) rs → option_map (λ r. r.view) o ≡ find (λ v. v.token == t) (views_of rs)
 view_found rs t o e = ap (option_map (λ (r : Recorded). r.view)) e ∙ sym (find-map (λ (r : Recorded). r.view) (λ v. v.token == t) rs)
-
-pub held_at : (rs : List Recorded) (hs : List Hold) (t : ℕ) (r : Recorded) → AreKept rs hs → Some r ≡ find (λ r. recorded_token r == t) rs → ltb 0 r.holders ≡ held_in hs t
-held_at rs hs t r k e = subst (λ o. IfSome o (λ r. ltb 0 r.holders ≡ held_in hs t)) (sym e) (held_found rs hs t k)
 
 -- an index of the first that nobody holds, or none
 pub is_free_first : (rs : List Recorded) (hs : List Hold) (i : ℕ) (d : Recorded) → AreKept rs hs → Some i ≡ position (λ r. not (ltb 0 r.holders)) rs → FirstAt (is_free (held_in hs)) rs i

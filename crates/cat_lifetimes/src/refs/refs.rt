@@ -4,7 +4,7 @@ ghost use Rattle.cat_base.specs.declared.refusal.Refusal.TheVariants.{Memory, De
 ghost use Rattle.cat_model.specs.Files.{Name};
 ghost use Rattle.cat_ledger_laws.specs.model.Users.{Changes, times, users_of, is_known};
 ghost use Rattle.cat_directory.specs.Devices.{CountsWriting, NoMore};
-ghost use Rattle.cat_directory.specs.Names.{name_of, same_name};
+ghost use Rattle.cat_directory.specs.Names.{same_name};
 ghost use Rattle.std.specs.HashMap.{spare};
 ghost use Rattle.std.specs.List.{IsDistinct};
 ghost use Rattle.std.specs.Map.{keys_of};

@@ -1,7 +1,7 @@
 //! The sessions' rights, by session and token.
-ghost use Rattle.std.specs.Prelude.{◌≡◌, ◌+◌, ◌<◌, ◌^◌, ◌++◌, [], ◌∷◌, eqb, if◌then◌else◌, is_some, length, option_map};
+ghost use Rattle.std.specs.Prelude.{◌≡◌, ◌+◌, ◌<◌, ◌++◌, [], ◌∷◌, if◌then◌else◌, is_some, length, option_map};
 ghost use Rattle.std.specs.Prelude.{None, Some, IfErr, IfNone, IfSome, OnErr, OnOk};
-ghost use Rattle.cat_lifetimes.specs.rights.Rights.{AreRightsApart, PutsIn, TakesOut, right_of};
+ghost use Rattle.cat_lifetimes.specs.rights.Rights.{PutsIn, TakesOut, right_of};
 
 use crate::held::HeldToken;
 use cat_base::{SessionNo, Token};

@@ -1,8 +1,7 @@
 //! The items put since the last flush, in the order of their writes.
-ghost use Rattle.std.specs.Prelude.{◌≡◌, ◌<◌, ◌≤◌, ◌-◌, ◌↔◌, [], ◌∷◌, ◌++◌, filter, not, map, length, take, find, option_map, All, IsTrue, OnErr, IfOk, OnOk};
+ghost use Rattle.std.specs.Prelude.{◌≡◌, ◌<◌, ◌≤◌, ◌-◌, ◌↔◌, [], ◌∷◌, ◌++◌, filter, not, map, length, take, All, IsTrue, OnErr, IfOk, OnOk};
 ghost use Rattle.std.specs.String.{string_eq};
 ghost use Rattle.indexmap.specs.IndexMap.{values};
-ghost use Rattle.cat_model.specs.Text.{same_text};
 ghost use Rattle.cat_model.specs.Item.{IsItem};
 ghost use Rattle.cat_model.specs.Query.{matches};
 ghost use Rattle.cat_model.specs.Write as write;
