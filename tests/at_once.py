@@ -17,7 +17,7 @@ import sys
 import threading
 from concurrent.futures import ThreadPoolExecutor
 
-from faulty import GO_ON, Faults, Faulty, can_stop_calls, stop_calls
+from faulty import GO_ON, TAKES_MEMORY, Faults, Faulty, can_stop_calls, stop_calls
 from limits import Child, lines_behind
 from tries import Wrong, expect, run
 
@@ -304,11 +304,17 @@ class Halted(Faulty):
         self.passes, self.merger = passes, sorted(threads, key=lambda it: (it - first) % (1 << 22))[1]
 
     def allocation(self, process, number, words):
-        if process == self.merger:
+        if process == self.merger and not sets_room_aside(number, words):
             self.passes -= 1
             if self.passes == -1:
                 return None
         return 0, 0, GO_ON
+
+
+def sets_room_aside(number, words):
+    """Whether the C library sets room aside for a thread, which can't be read or written yet. It does so for a thread's first piece,
+    however small: one that the merger takes as it looks for the first time, maybe, when there is nothing to do."""
+    return TAKES_MEMORY[number] == "mmap" and not words[2]
 
 
 # How many rows each of two segments has, nearly all of 7,500 bytes; and how many large pieces the merger takes for them at least.
