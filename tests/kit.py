@@ -1,7 +1,6 @@
 """The Rattle kit on this machine: where it is, what it calls itself, and what of this repository it has built.
 
-usage: python3 tests/kit.py
-The status is 0 where `rt ci` has room to keep what it proves, and proves crates by name.
+usage: python3 tests/kit.py            (how many checks go side by side here)
 """
 
 import hashlib
@@ -14,6 +13,7 @@ import shutil
 import subprocess
 import sys
 import tempfile
+import threading
 from pathlib import Path
 
 from sources import TOP
@@ -166,13 +166,37 @@ def rt():
     return made
 
 
-def keeps():
-    """Whether `rt ci` has room to keep what it proves, and proves crates by name, which it refuses where CI says that it is asked for its verdict."""
+def builds(keeps):
+    """The kit's own rt, as programs are built with it here: what a crate is made of is looked at once, and not once for each path of
+    crates.txt that leads to it, and the proofs of functions are kept for later checks or aren't."""
     kits = rt()
-    if os.environ.get("CI") == "true" or not hasattr(kits, "Kept"):
-        return False
-    kept = kits.Kept([])
-    return bool(kept.at) and kept.has_room()
+    if hasattr(kits, "share_work"):
+        kits.share_work(True)
+    else:
+        share_sums(kits.rtlib.Crate)
+    if not keeps:
+        kits.rtlib.KEPT = []
+        kits.rtlib.Crate.has_kept = lambda _: False
+    return kits
+
+
+def share_sums(of):
+    """Has the sum of a crate's files take that of each crate below it once, and not once for each path that leads there."""
+    own, asked = of.stamp, threading.local()
+
+    def stamp(crate):
+        sums, is_first = getattr(asked, "sums", None), not hasattr(asked, "sums")
+        if is_first:
+            sums = asked.sums = {}
+        try:
+            if crate.folder not in sums:
+                sums[crate.folder] = own(crate)
+            return sums[crate.folder]
+        finally:
+            if is_first:
+                del asked.sums
+
+    of.stamp = stamp
 
 
 class KeptByGate:
@@ -223,4 +247,4 @@ def link_files(entry, paths, room):
 
 
 if __name__ == "__main__":
-    sys.exit(0 if keeps() else 1)
+    print(lanes())
