@@ -3,11 +3,11 @@
 
 usage: tests/build.py [--keep] [--lanes N] [PROGRAM..]
 
-Crates that don't wait for each other are proved side by side, one a processor where there are 4 GB of memory for each, first
-those with the longest chain of others behind them; processors that no crate waits for become more jobs of those that are
-proved. What earlier runs proved of the same files is not proved again. With --keep each function's proof is kept, so that a
-later change is proved in a fraction of the time; to keep them takes a third of the time more. It says on standard error how
-far it is, and, where a crate isn't proved, what its check said.
+Crates that don't wait for each other are proved side by side, where there are 4 GB of memory for each processor. Those with the
+longest chain of others behind them come first, and share the processors that are idle as their jobs. What earlier runs proved
+of the same files is not proved again. With --keep each function's proof is kept, so that a later change is proved in a fraction
+of the time; without it libraries are kept by what they state, as `rt ci` has them, which takes a third less. It says on
+standard error how far it is, and, where a crate isn't proved, what its check said.
 """
 
 import argparse
@@ -27,6 +27,31 @@ from sources import TOP, Sources  # noqa: E402
 
 # rt runs what it has built: an input that ends well makes its status the build's.
 INPUT = b"SCHEMA 2 1 {}\n"
+# A chain that is shorter than the longest by no more than this is as urgent. Beyond so many jobs a proof hardly ends sooner.
+URGENT, MOST_JOBS = 0.9, 3
+
+
+def seconds_behind(sources, names):
+    """For each of these crates what the longest chain that waits for it takes, itself counted, by tests/seconds.txt."""
+    known = (it.split() for it in (TOP / "tests" / "seconds.txt").read_text(encoding="utf-8").splitlines() if it and it[0] != "#")
+    known = {name: int(seconds) for name, seconds in known}
+    return sources.behind(names, lambda name: known.get(name) or sources.size(name) // 3000)
+
+
+def shares(ready, idle, behind, longest):
+    """Which crates are begun by so many processors, and how many jobs each gets. `ready` has the longest chains first."""
+    urgent = [it for it in ready if behind[it] >= URGENT * longest]
+    given = dict.fromkeys(urgent[:idle], 1)
+    share_out(given, idle, behind, MOST_JOBS)
+    given.update(dict.fromkeys([it for it in ready if it not in given][: idle - sum(given.values())], 1))
+    share_out(given, idle, behind, idle)
+    return given
+
+
+def share_out(given, idle, behind, most):
+    """One job more at a time for the longest chain by jobs, until all are given out, or each has the most."""
+    while sum(given.values()) < idle and any(jobs < most for jobs in given.values()):
+        given[max((it for it in given if given[it] < most), key=lambda it: behind[it] / given[it])] += 1
 
 
 class Builder:
@@ -81,7 +106,7 @@ def main():
     parser.add_argument("programs", nargs="*", metavar="PROGRAM", default=["catalogue"])
     asked = parser.parse_args()
     # What was kept once is taken, and kept anew.
-    asked.keep = asked.keep or any((TOP / "crates").glob("*/out/incremental"))
+    asked.keep = asked.keep or any((TOP / "crates").glob("*/out/incremental")) or any((TOP / "crates").glob("*/out/rlib/stamp"))
     if asked.alone:
         return run_alone(asked.programs[0], asked.lanes, asked.keep)
     sources = Sources()
@@ -92,7 +117,7 @@ def main():
         return 2
     whole = sources.below(*programs)
     libraries = [it for it in whole if not sources.is_program(it)]
-    behind = sources.size_behind(libraries)
+    behind = seconds_behind(sources, whole)
     builder, start, done, failed = Builder(libraries, asked.keep), time.monotonic(), [], False
     lanes = max(1, asked.lanes) if asked.lanes and builder.crates else builder.lanes()
     print(f"run: proving {len(whole)} crates, {lanes} at once, which takes long the first time (./try shows the program unproved)", file=sys.stderr, flush=True)
@@ -122,12 +147,9 @@ def main():
     with ThreadPoolExecutor(lanes) as pool:
         while running or left and not failed:
             ready = [] if failed else [it for it in left if all(dep in done for dep in sources.uses[it])]
-            for at, name in enumerate(ready):
-                idle = lanes - sum(jobs for _, jobs in running.values())
-                if idle < 1:
-                    break
-                # What doesn't divide goes to the longest chain, which stands first.
-                jobs = min(4, -(-idle // (len(ready) - at)))
+            idle = lanes - sum(jobs for _, jobs in running.values())
+            longest = max((behind[it] for it in [*ready, *(name for name, _ in running.values())]), default=0)
+            for name, jobs in shares(ready, idle, behind, longest).items():
                 left.remove(name)
                 running[pool.submit(work, name, jobs)] = name, jobs
             if not running:

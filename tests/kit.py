@@ -168,16 +168,40 @@ def rt():
 
 def builds(keeps):
     """The kit's own rt, as programs are built with it here: what a crate is made of is looked at once, and not once for each path of
-    crates.txt that leads to it, and the proofs of functions are kept for later checks or aren't."""
+    crates.txt that leads to it; and the proofs of functions are kept for later checks, or libraries are what they state alone."""
     kits = rt()
     if hasattr(kits, "share_work"):
         kits.share_work(True)
     else:
         share_sums(kits.rtlib.Crate)
     if not keeps:
-        kits.rtlib.KEPT = []
-        kits.rtlib.Crate.has_kept = lambda _: False
+        keep_statements(kits.rtlib)
     return kits
+
+
+def keep_statements(rtlib):
+    """Has a library built as `rt ci` builds it: with what it states, and not with its proofs. Its stamp has a name of its own: other commands
+    of rt want the proofs too, and build their own."""
+    of = rtlib.Crate
+
+    def stamp_of(crate):
+        return Path(crate.folder) / "out" / "rlib" / "statements"
+
+    def is_built(crate):
+        return os.path.isdir(crate.rlib) and stamp_of(crate).is_file() and stamp_of(crate).read_text(encoding="utf-8") == crate.stamp()
+
+    def build_rlib(crate, flags, anew):
+        if crate.is_built():
+            return 0
+        stamp, kept = crate.stamp(), stamp_of(crate)
+        shutil.rmtree(kept.parent, ignore_errors=True)
+        kept.parent.mkdir(parents=True)
+        status = crate.call(rtlib.RATTLE, "build", *crate.words(flags), "--statements", "-o", crate.rlib)
+        if status == 0 and stamp == crate.stamp():
+            kept.write_text(stamp, encoding="utf-8")
+        return status
+
+    rtlib.KEPT, of.has_kept, of.is_built, of.build_rlib = [], lambda _: False, is_built, build_rlib
 
 
 def share_sums(of):

@@ -62,11 +62,11 @@ class Sources:
     def size_below(self, name):
         return sum(self.size(it) for it in self.below(name))
 
-    def size_behind(self, names):
-        """For each of these crates the size of the longest chain of them that waits for it, itself counted."""
+    def behind(self, names, cost):
+        """For each of these crates what the dearest chain of them that waits for it costs, itself counted."""
         order = [it for it in self.below(*names) if it in names]
         behind = {}
         for name in reversed(order):
             above = [behind[it] for it in behind if name in self.uses[it]]
-            behind[name] = self.size(name) + max(above, default=0)
+            behind[name] = cost(name) + max(above, default=0)
         return behind
