@@ -27,8 +27,9 @@ from sources import TOP, Sources  # noqa: E402
 
 # rt runs what it has built: an input that ends well makes its status the build's.
 INPUT = b"SCHEMA 2 1 {}\n"
-# A chain that is shorter than the longest by no more than this is as urgent. Beyond so many jobs a proof hardly ends sooner.
-URGENT, MOST_JOBS = 0.9, 3
+# A chain that is shorter than the longest by no more than this is as urgent. Where other crates wait a proof gets so many jobs at most,
+# and where none does so many: beyond these it hardly ends sooner.
+URGENT, MOST_JOBS, ALL_JOBS = 0.9, 3, 4
 
 
 def seconds_behind(sources, names):
@@ -44,7 +45,7 @@ def shares(ready, idle, behind, longest):
     given = dict.fromkeys(urgent[:idle], 1)
     share_out(given, idle, behind, MOST_JOBS)
     given.update(dict.fromkeys([it for it in ready if it not in given][: idle - sum(given.values())], 1))
-    share_out(given, idle, behind, idle)
+    share_out(given, idle, behind, ALL_JOBS)
     return given
 
 
@@ -98,7 +99,84 @@ def run_alone(name, jobs, keeps):
     return rt.main(["run", "--jobs", str(jobs)])
 
 
-def main():
+class Build:
+    """Proves the libraries below some programs, and builds these."""
+
+    def __init__(self, sources, programs, asked):
+        self.sources, self.programs, self.keeps = sources, programs, asked.keep
+        self.whole = sources.below(*programs)
+        self.left = [it for it in self.whole if not sources.is_program(it)]
+        self.behind = seconds_behind(sources, self.whole)
+        self.left.sort(key=lambda it: -self.behind[it])
+        self.builder = Builder(self.left, self.keeps)
+        self.lanes = max(1, asked.lanes) if asked.lanes and self.builder.crates else self.builder.lanes()
+        self.start, self.done, self.telling = time.monotonic(), [], threading.Lock()
+        print(
+            f"run: proving {len(self.whole)} crates, {self.lanes} at once, which takes long the first time (./try shows the program unproved)",
+            file=sys.stderr,
+            flush=True,
+        )
+
+    def tell(self, name):
+        with self.telling:
+            self.done.append(name)
+            spent = int(time.monotonic() - self.start)
+            print(f"run: {len(self.done)} of {len(self.whole)} done: {name}, after {spent // 60} min {spent % 60} s", file=sys.stderr, flush=True)
+
+    def prove(self, name, jobs):
+        """Proves one library, and answers whether it is proved."""
+        with tempfile.TemporaryFile("w+", errors="replace") as out:
+            try:
+                status = self.builder.build(name, jobs, out)
+            except SystemExit:
+                status = 2
+            if not status:
+                self.tell(name)
+                return True
+            out.seek(0)
+            with self.telling:
+                print(f"{out.read()}run: {name} is not proved", file=sys.stderr, flush=True)
+            return False
+
+    def begin(self, pool, running):
+        """Begins what is due by the processors that are idle."""
+        ready = [it for it in self.left if all(dep in self.done for dep in self.sources.uses[it])]
+        idle = self.lanes - sum(jobs for _, jobs in running.values())
+        longest = max((self.behind[it] for it in [*ready, *(name for name, _ in running.values())]), default=0)
+        for name, jobs in shares(ready, idle, self.behind, longest).items():
+            self.left.remove(name)
+            running[pool.submit(self.prove, name, jobs)] = name, jobs
+
+    def prove_all(self):
+        """Answers whether all libraries are proved. Behind one that isn't, none is begun."""
+        running, failed = {}, False
+        with ThreadPoolExecutor(self.lanes) as pool:
+            self.begin(pool, running)
+            while running:
+                for it in wait(running, return_when=FIRST_COMPLETED).done:
+                    running.pop(it)
+                    failed = failed or not it.result()
+                if not failed:
+                    self.begin(pool, running)
+        self.builder.end()
+        return not failed
+
+    def build(self, name):
+        """Proves and builds a program, and answers whether it stands."""
+        words = [sys.executable, __file__, "--alone", "--lanes", str(min(ALL_JOBS, self.lanes)), *["--keep"] * self.keeps, name]
+        ran = subprocess.run(words, input=INPUT, stdout=subprocess.PIPE, stderr=subprocess.STDOUT)
+        # catalogue_check wants a folder, and says so: what counts is that it was built.
+        made = TOP / "crates" / name / "out" / name
+        is_proved = b"logic=not-proved" not in ran.stdout and b"error[" not in ran.stdout
+        if made.is_file() and made.with_name(f"{name}.stamp").is_file() and is_proved and not (ran.returncode and name == "catalogue"):
+            self.tell(name)
+            return True
+        sys.stderr.buffer.write(ran.stdout)
+        print(f"run: {name} was not built", file=sys.stderr)
+        return False
+
+
+def asked_for():
     parser = argparse.ArgumentParser("build.py", description="Proves and builds programs of this repository.")
     parser.add_argument("--keep", action="store_true", help="keeps each function's proof for later changes")
     parser.add_argument("--lanes", type=int, help="how many processors it uses")
@@ -106,73 +184,24 @@ def main():
     parser.add_argument("programs", nargs="*", metavar="PROGRAM", default=["catalogue"])
     asked = parser.parse_args()
     # What was kept once is taken, and kept anew.
-    asked.keep = asked.keep or any((TOP / "crates").glob("*/out/incremental")) or any((TOP / "crates").glob("*/out/rlib/stamp"))
+    asked.keep = asked.keep or any(any((TOP / "crates").glob(f"*/out/{it}")) for it in ("incremental", "rlib/stamp"))
+    return asked
+
+
+def main():
+    asked, sources = asked_for(), Sources()
     if asked.alone:
         return run_alone(asked.programs[0], asked.lanes, asked.keep)
-    sources = Sources()
     programs = asked.programs or ["catalogue"]
     wrong = [it for it in programs if it not in sources.uses or not sources.is_program(it)]
     if wrong or not kit.home():
         print(f"build: {wrong[0]} is no program of crates.txt" if wrong else "build: no rt on PATH", file=sys.stderr)
         return 2
-    whole = sources.below(*programs)
-    libraries = [it for it in whole if not sources.is_program(it)]
-    behind = seconds_behind(sources, whole)
-    builder, start, done, failed = Builder(libraries, asked.keep), time.monotonic(), [], False
-    lanes = max(1, asked.lanes) if asked.lanes and builder.crates else builder.lanes()
-    print(f"run: proving {len(whole)} crates, {lanes} at once, which takes long the first time (./try shows the program unproved)", file=sys.stderr, flush=True)
-    telling = threading.Lock()
-
-    def tell(name):
-        with telling:
-            done.append(name)
-            spent = int(time.monotonic() - start)
-            print(f"run: {len(done)} of {len(whole)} done: {name}, after {spent // 60} min {spent % 60} s", file=sys.stderr, flush=True)
-
-    def work(name, jobs):
-        with tempfile.TemporaryFile("w+", errors="replace") as out:
-            try:
-                status = builder.build(name, jobs, out)
-            except SystemExit:
-                status = 2
-            if not status:
-                tell(name)
-                return True
-            out.seek(0)
-            with telling:
-                print(f"{out.read()}run: {name} is not proved", file=sys.stderr, flush=True)
-            return False
-
-    left, running = sorted(libraries, key=lambda it: -behind[it]), {}
-    with ThreadPoolExecutor(lanes) as pool:
-        while running or left and not failed:
-            ready = [] if failed else [it for it in left if all(dep in done for dep in sources.uses[it])]
-            idle = lanes - sum(jobs for _, jobs in running.values())
-            longest = max((behind[it] for it in [*ready, *(name for name, _ in running.values())]), default=0)
-            for name, jobs in shares(ready, idle, behind, longest).items():
-                left.remove(name)
-                running[pool.submit(work, name, jobs)] = name, jobs
-            if not running:
-                break
-            for it in wait(running, return_when=FIRST_COMPLETED).done:
-                running.pop(it)
-                failed = failed or not it.result()
-    builder.end()
-    if failed:
+    build = Build(sources, programs, asked)
+    if not build.prove_all():
         print("run: not all was proved, so no program was built", file=sys.stderr)
         return 1
-    for name in programs:
-        words = [sys.executable, __file__, "--alone", "--lanes", str(min(4, lanes)), *["--keep"] * asked.keep, name]
-        ran = subprocess.run(words, input=INPUT, stdout=subprocess.PIPE, stderr=subprocess.STDOUT)
-        # catalogue_check wants a folder, and says so: what counts is that it was built.
-        made = TOP / "crates" / name / "out" / name
-        is_made = made.is_file() and b"logic=not-proved" not in ran.stdout and b"error[" not in ran.stdout and (TOP / "crates" / name / "out" / f"{name}.stamp").is_file()
-        if not is_made or ran.returncode and name == "catalogue":
-            sys.stderr.buffer.write(ran.stdout)
-            print(f"run: {name} was not built", file=sys.stderr)
-            return 1
-        tell(name)
-    return 0
+    return 0 if all(build.build(it) for it in programs) else 1
 
 
 if __name__ == "__main__":
