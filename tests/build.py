@@ -5,9 +5,9 @@ usage: tests/build.py [--keep] [--lanes N] [PROGRAM..]
 
 Crates that don't wait for each other are proved side by side, where there are 4 GB of memory for each processor. Those with the
 longest chain of others behind them come first, and share the processors that are idle as their jobs. What earlier runs proved
-of the same files is not proved again. With --keep each function's proof is kept, so that a later change is proved in a fraction
-of the time; without it libraries are kept by what they state, as `rt ci` has them, which takes a third less or more. It says on
-standard error how far it is, and, where a crate isn't proved, what its check said.
+of the same files is not proved again. With --keep each function's proof is kept, so that a later change is proved without what
+it doesn't touch; without it libraries are kept by what they state, as `rt ci` has them, which takes a third less or more. It
+says on standard error how far it is, and, where a crate isn't proved, what its check said.
 """
 
 import argparse

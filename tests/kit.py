@@ -180,9 +180,11 @@ def builds(keeps):
 
 
 def keep_statements(rtlib):
-    """Has a library built as `rt ci` builds it: with what it states, and not with its proofs. Its stamp has a name of its own: other commands
-    of rt want the proofs too, and build their own."""
+    """Has a library built as `rt ci` builds it: with what it states, and not with its proofs. Its stamp has a name of its own, since other
+    commands of rt want the proofs too, and build their own. Where a kit is put together otherwise, it builds as it does."""
     of = rtlib.Crate
+    if not all(hasattr(of, it) for it in ("build_rlib", "call", "has_kept", "is_built", "stamp", "words")) or not hasattr(rtlib, "RATTLE"):
+        return
 
     def stamp_of(crate):
         return Path(crate.folder) / "out" / "rlib" / "statements"
